@@ -1,0 +1,5 @@
+pub mod Choice
+pub mod Tables
+pub mod Rows
+pub mod Turns
+pub mod Search
