@@ -1,0 +1,62 @@
+// Replays the Rust's answers to the float helpers.
+// An entry: the helper's code, three operands by their bits (4 bytes each), whether the answer is below zero, the answer (8 bytes).
+use replay::Tally;
+
+// The helpers that answer a float.
+fn float(code: u8, a: f32, b: f32, c: f32) -> f32 {
+    match code {
+        0 => floats::min(a, b),
+        1 => floats::max(a, b),
+        2 => floats::clamp(a, b, c),
+        3 => floats::abs(a),
+        4 => a,
+        _ => a,
+    }
+}
+
+// The helpers that answer a number from 0 up, or whether something holds.
+fn number(code: u8, a: f32) -> u64 {
+    match code {
+        10 => floats::is_nan(a) as u64,
+        11 => floats::is_finite(a) as u64,
+        12 => floats::is_bounded(a) as u64,
+        13 => floats::saturating_u8(a) as u64,
+        14 => floats::saturating_u32(a) as u64,
+        _ => 0,
+    }
+}
+
+fn is_right(entry: &[u8]) -> bool {
+    let code = replay::byte_at(entry, 0);
+    let a = replay::f32_at(entry, 1);
+    if code < 10 {
+        let answer = float(code, a, replay::f32_at(entry, 5), replay::f32_at(entry, 9));
+        return replay::same(answer, replay::f32_at(entry, 14));
+    }
+    number(code, a) == replay::u64_at(entry, 14)
+}
+
+fn turn(buffer: &mut [u8], t: Tally) -> Tally {
+    let n = replay::next(buffer);
+    if n == 0 {
+        return replay::ended(t);
+    }
+    let right = is_right(&buffer[..n]);
+    replay::told(t, &buffer[..n], right)
+}
+
+// A proved loop has to end, and nothing says that the input does: the loop counts its turns down.
+fn run(buffer: &mut [u8]) -> Tally {
+    let mut t = replay::start();
+    let mut turns = u64::MAX;
+    while turns > 0 && t.more {
+        t = turn(buffer, t);
+        turns -= 1;
+    }
+    t
+}
+
+fn main() {
+    let mut buffer = io::large_buffer();
+    replay::print(run(&mut buffer));
+}
