@@ -5,7 +5,7 @@ use std::hint::black_box;
 const COUNT: usize = 16_384;
 
 pub fn workloads() -> Vec<Box<dyn Workload>> {
-    vec![Box::new(Casts::new())]
+    vec![Box::new(Casts::new()), Box::new(Floor::new())]
 }
 
 /// Floats around 0 to 1, a few of them far off.
@@ -57,5 +57,46 @@ impl Workload for Casts {
 
     fn agree(&self) -> bool {
         self.port == self.rust
+    }
+}
+
+struct Floor {
+    src: Vec<f32>,
+    port: Vec<f32>,
+    rust: Vec<f32>,
+}
+
+impl Floor {
+    fn new() -> Self {
+        let src = inputs().iter().map(|x| x * 1000.0).collect();
+        Self { src, port: vec![0.0; COUNT], rust: vec![0.0; COUNT] }
+    }
+}
+
+impl Workload for Floor {
+    fn name(&self) -> &'static str {
+        "floor"
+    }
+
+    fn bar(&self) -> Option<f64> {
+        None
+    }
+
+    fn units(&self) -> u64 {
+        COUNT as u64
+    }
+
+    fn port(&mut self) {
+        port::floats::floors(black_box(&self.src), black_box(&mut self.port));
+    }
+
+    fn rust(&mut self) {
+        for (out, x) in black_box(&mut self.rust).iter_mut().zip(black_box(&self.src)) {
+            *out = x.floor();
+        }
+    }
+
+    fn agree(&self) -> bool {
+        self.port.iter().zip(&self.rust).all(|(a, b)| a.to_bits() == b.to_bits())
     }
 }

@@ -1,6 +1,7 @@
 // Replays the Rust's answers to the float helpers.
 // An entry: the helper's code, three operands by their bits (4 bytes each), whether the answer is below zero, the answer (8 bytes).
 use replay::Tally;
+use rounding::Whole;
 
 // The helpers that answer a float.
 fn float(code: u8, a: f32, b: f32, c: f32) -> f32 {
@@ -10,6 +11,9 @@ fn float(code: u8, a: f32, b: f32, c: f32) -> f32 {
         2 => floats::clamp(a, b, c),
         3 => floats::abs(a),
         4 => a,
+        5 => rounding::floor(a),
+        6 => rounding::ceil(a),
+        7 => rounding::round(a),
         _ => a,
     }
 }
@@ -26,6 +30,19 @@ fn number(code: u8, a: f32) -> u64 {
     }
 }
 
+// The helpers that answer a signed number.
+fn whole(code: u8, a: f32) -> Whole {
+    match code {
+        20 => rounding::saturating_i32(rounding::floor(a)),
+        21 => rounding::saturating_i32(rounding::ceil(a)),
+        22 => rounding::next_i32(rounding::saturating_i32(rounding::ceil(a))),
+        23 => rounding::saturating_i64(rounding::floor(a)),
+        24 => rounding::next_i64(rounding::saturating_i64(rounding::floor(a))),
+        25 => rounding::saturating_i32(a),
+        _ => rounding::saturating_i64(a),
+    }
+}
+
 fn is_right(entry: &[u8]) -> bool {
     let code = replay::byte_at(entry, 0);
     let a = replay::f32_at(entry, 1);
@@ -33,7 +50,15 @@ fn is_right(entry: &[u8]) -> bool {
         let answer = float(code, a, replay::f32_at(entry, 5), replay::f32_at(entry, 9));
         return replay::same(answer, replay::f32_at(entry, 14));
     }
-    number(code, a) == replay::u64_at(entry, 14)
+    let answer = replay::u64_at(entry, 14);
+    if code < 20 {
+        return number(code, a) == answer;
+    }
+    let w = whole(code, a);
+    if w.below {
+        return replay::byte_at(entry, 13) == 1 && w.n == answer;
+    }
+    replay::byte_at(entry, 13) == 0 && w.n == answer
 }
 
 fn turn(buffer: &mut [u8], t: Tally) -> Tally {

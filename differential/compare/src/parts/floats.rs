@@ -49,6 +49,24 @@ impl Told for u32 {
     }
 }
 
+impl Told for i64 {
+    fn told(self) -> Answer {
+        Answer { below: self < 0, n: if self < 0 { (-1 - self) as u64 } else { self as u64 } }
+    }
+}
+
+impl Told for i32 {
+    fn told(self) -> Answer {
+        i64::from(self).told()
+    }
+}
+
+impl Told for port::Whole {
+    fn told(self) -> Answer {
+        Answer { below: self.below, n: self.n }
+    }
+}
+
 /// A helper of one operand.
 struct Helper {
     code: u8,
@@ -86,11 +104,21 @@ fn helpers() -> Vec<Helper> {
     vec![
         helper!(3, "abs", |x| x.abs(), port::probe_abs(x)),
         helper!(4, "from_bits", |x| x, port::probe_from_bits(x.to_bits())),
+        helper!(5, "floor", |x| x.floor(), port::probe_floor(x)),
+        helper!(6, "ceil", |x| x.ceil(), port::probe_ceil(x)),
+        helper!(7, "round", |x| x.round(), port::probe_round(x)),
         helper!(10, "is_nan", |x| x.is_nan(), port::probe_is_nan(x)),
         helper!(11, "is_finite", |x| x.is_finite(), port::probe_is_finite(x)),
         helper!(12, "is_bounded", |x| x.is_finite() && x.abs() <= 1048576.0, port::probe_is_bounded(x)),
         helper!(13, "saturating_u8", |x| x as u8, port::probe_saturating_u8(x)),
         helper!(14, "saturating_u32", |x| x as u32, port::probe_saturating_u32(x)),
+        helper!(20, "i32 of the floor", |x| x.floor() as i32, port::saturating_i32(port::probe_floor(x))),
+        helper!(21, "i32 of the ceiling", |x| x.ceil() as i32, port::saturating_i32(port::probe_ceil(x))),
+        helper!(22, "i32 of the ceiling, + 1", |x| (x.ceil() as i32).saturating_add(1), port::next_i32(port::saturating_i32(port::probe_ceil(x)))),
+        helper!(23, "i64 of the floor", |x| x.floor() as i64, port::saturating_i64(port::probe_floor(x))),
+        helper!(24, "i64 of the floor, + 1", |x| (x.floor() as i64).saturating_add(1), port::next_i64(port::saturating_i64(port::probe_floor(x)))),
+        helper!(25, "saturating_i32", |x| x as i32, port::saturating_i32(x)),
+        helper!(26, "saturating_i64", |x| x as i64, port::saturating_i64(x)),
     ]
 }
 

@@ -1,11 +1,9 @@
-use Prim.Native.Nat.{ℕ, _+_, _-_, _<_, _≤_}
-use mathlib.Core.Path.{_≡_, refl, sym, ap, _∙_}
-use mathlib.Core.List.{List, _++_}
-use lib.Ieee as Ieee
+use Prim.Native.Nat.{ℕ, _-_}
+use mathlib.Core.List.{List}
 use lib.Ieee.{Float, nan}
-use lib.ListN.{length, getD, set, drop, length-set}
-use native.Mathlib.Omega.{arith}
+use lib.ListN.{length, getD}
 use borrow.Author.Needs.{needs}
+use lib.Ieee as Ieee
 use Rattle.probes.proofs.Mapped.{Mapped, mapped-none, mapped-more, mapped-all}
 use Rattle.probes.proofs.probe_floats.probe_saturating_u8s.Statement.{statement}
 use Rattle.probes.proofs.probe_floats.probe_saturating_u8s.Tie as tie
