@@ -5,7 +5,7 @@ use std::hint::black_box;
 const COUNT: usize = 16_384;
 
 pub fn workloads() -> Vec<Box<dyn Workload>> {
-    vec![Box::new(Casts::new()), Box::new(Floor::new())]
+    vec![Box::new(ToByte::new()), Box::new(Floor::new())]
 }
 
 /// Floats around 0 to 1, a few of them far off.
@@ -20,25 +20,25 @@ fn inputs() -> Vec<f32> {
         .collect()
 }
 
-struct Casts {
+struct ToByte {
     src: Vec<f32>,
     port: Vec<u8>,
     rust: Vec<u8>,
 }
 
-impl Casts {
+impl ToByte {
     fn new() -> Self {
         Self { src: inputs(), port: vec![0; COUNT], rust: vec![0; COUNT] }
     }
 }
 
-impl Workload for Casts {
+impl Workload for ToByte {
     fn name(&self) -> &'static str {
-        "saturating_u8"
+        "to_byte"
     }
 
     fn bar(&self) -> Option<f64> {
-        None
+        Some(0.5)
     }
 
     fn units(&self) -> u64 {
@@ -46,12 +46,12 @@ impl Workload for Casts {
     }
 
     fn port(&mut self) {
-        port::floats::saturating_u8s(black_box(&self.src), black_box(&mut self.port));
+        port::floats::to_bytes(black_box(&self.src), black_box(&mut self.port));
     }
 
     fn rust(&mut self) {
         for (out, &x) in black_box(&mut self.rust).iter_mut().zip(black_box(&self.src)) {
-            *out = x as u8;
+            *out = oracle::raster::probe::to_byte(x);
         }
     }
 

@@ -10,6 +10,7 @@ ghost use mathlib.Core.Bool.{cond};
 ghost use Rattle.lists.specs.Lists.{tab};
 ghost use Rattle.floats.specs.Num.{minOf, maxOf, clampOf, absOf, finiteOf, boundedOf};
 ghost use Rattle.rounding.specs.Rounding.{floorOf, ceilOf, roundOf, nextOf};
+ghost use Rattle.channels.specs.Channel.{unitOf, byteOf, roundByteOf};
 use rounding::Whole;
 
 #[no_mangle]
@@ -140,15 +141,36 @@ pub extern "C" fn probe_next_i64(below: bool, m: u64, n: &mut u64) -> bool
     w.below
 }
 
-// The cast of each float: both slices have one length.
 #[no_mangle]
-pub extern "C" fn probe_saturating_u8s(src: &[f32], out: &mut [u8])
+pub extern "C" fn probe_to_unit(v: u8) -> f32
+    ensures { λ r. ⌜ r ≡ unitOf v ⌝ }
+{
+    channels::to_unit(v)
+}
+
+#[no_mangle]
+pub extern "C" fn probe_to_byte(v: f32) -> u8
+    ensures { λ r. ⌜ r ≡ byteOf v ⌝ }
+{
+    channels::to_byte(v)
+}
+
+#[no_mangle]
+pub extern "C" fn probe_rounded_byte(x: f32) -> u8
+    ensures { λ r. ⌜ r ≡ roundByteOf x ⌝ }
+{
+    channels::rounded_byte(x)
+}
+
+// The byte of each float: both slices have one length.
+#[no_mangle]
+pub extern "C" fn probe_to_bytes(src: &[f32], out: &mut [u8])
     requires { ⌜ length (now src) ≡ length (now out) ⌝ }
-    ensures { λ _. ⌜ now (out .exit) ≡ tab (length (now (src .entry))) (λ (i : ℕ). Ieee.toUnsigned 8 (getD (now (src .entry)) i nan)) ⌝ }
+    ensures { λ _. ⌜ now (out .exit) ≡ tab (length (now (src .entry))) (λ (i : ℕ). byteOf (getD (now (src .entry)) i nan)) ⌝ }
 {
     let mut i = 0;
     while i < src.len() {
-        out[i] = floats::saturating_u8(src[i]);
+        out[i] = channels::to_byte(src[i]);
         i += 1;
     }
 }

@@ -26,6 +26,8 @@ fn number(code: u8, a: f32) -> u64 {
         12 => floats::is_bounded(a) as u64,
         13 => floats::saturating_u8(a) as u64,
         14 => floats::saturating_u32(a) as u64,
+        15 => channels::to_byte(a) as u64,
+        16 => channels::rounded_byte(a) as u64,
         _ => 0,
     }
 }
@@ -45,6 +47,12 @@ fn whole(code: u8, a: f32) -> Whole {
 
 fn is_right(entry: &[u8]) -> bool {
     let code = replay::byte_at(entry, 0);
+    if code == 8 {
+        return replay::same(
+            channels::to_unit(replay::byte_at(entry, 1)),
+            replay::f32_at(entry, 14),
+        );
+    }
     let a = replay::f32_at(entry, 1);
     if code < 10 {
         let answer = float(code, a, replay::f32_at(entry, 5), replay::f32_at(entry, 9));

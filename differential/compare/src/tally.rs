@@ -70,7 +70,9 @@ impl Tally {
     /// A difference that has no input to shrink.
     pub fn difference(&mut self, words: String) {
         self.differences += 1;
-        self.messages.push(words);
+        if self.messages.len() < 4 * SHOWN {
+            self.messages.push(words);
+        }
     }
 
     pub fn merge(&mut self, other: Tally) {

@@ -19,13 +19,16 @@ unsafe extern "C" {
     safe fn probe_next_i32(below: bool, m: u64, n: &mut u64) -> bool;
     safe fn probe_next_i64(below: bool, m: u64, n: &mut u64) -> bool;
     fn probe_floors(src: *const f32, src_len: usize, out: *mut f32, out_len: usize);
-    fn probe_saturating_u8s(src: *const f32, src_len: usize, out: *mut u8, out_len: usize);
+    pub safe fn probe_to_unit(v: u8) -> f32;
+    pub safe fn probe_to_byte(v: f32) -> u8;
+    pub safe fn probe_rounded_byte(x: f32) -> u8;
+    fn probe_to_bytes(src: *const f32, src_len: usize, out: *mut u8, out_len: usize);
 }
 
-/// The cast of each float: both slices have one length.
-pub fn saturating_u8s(src: &[f32], out: &mut [u8]) {
+/// The byte of each float: both slices have one length.
+pub fn to_bytes(src: &[f32], out: &mut [u8]) {
     assert_eq!(src.len(), out.len());
-    unsafe { probe_saturating_u8s(src.as_ptr(), src.len(), out.as_mut_ptr(), out.len()) }
+    unsafe { probe_to_bytes(src.as_ptr(), src.len(), out.as_mut_ptr(), out.len()) }
 }
 
 /// The floor of each float: both slices have one length.

@@ -1,6 +1,7 @@
 //! The float helpers: Rust's own operations on f32 that raster.rs and texture.rs use, and raster.rs's to_unit and to_byte.
 use crate::floats::{class, mixed, specials};
 use crate::{shrink, Ctx, Part, Record, Rng, Tally};
+use oracle::raster::probe as raster;
 use port::floats as port;
 use std::hint::black_box;
 use std::ops::Range;
@@ -107,11 +108,15 @@ fn helpers() -> Vec<Helper> {
         helper!(5, "floor", |x| x.floor(), port::probe_floor(x)),
         helper!(6, "ceil", |x| x.ceil(), port::probe_ceil(x)),
         helper!(7, "round", |x| x.round(), port::probe_round(x)),
+        helper!(8, "to_unit", |x| raster::to_unit(x.to_bits() as u8), port::probe_to_unit(x.to_bits() as u8)),
         helper!(10, "is_nan", |x| x.is_nan(), port::probe_is_nan(x)),
         helper!(11, "is_finite", |x| x.is_finite(), port::probe_is_finite(x)),
         helper!(12, "is_bounded", |x| x.is_finite() && x.abs() <= 1048576.0, port::probe_is_bounded(x)),
         helper!(13, "saturating_u8", |x| x as u8, port::probe_saturating_u8(x)),
         helper!(14, "saturating_u32", |x| x as u32, port::probe_saturating_u32(x)),
+        helper!(15, "to_byte", |x| raster::to_byte(x), port::probe_to_byte(x)),
+        // The last step of texture.rs's sample_linear_level, and of its mixing of two levels.
+        helper!(16, "rounded_byte", |x| x.round().clamp(0.0, 255.0) as u8, port::probe_rounded_byte(x)),
         helper!(20, "i32 of the floor", |x| x.floor() as i32, port::saturating_i32(port::probe_floor(x))),
         helper!(21, "i32 of the ceiling", |x| x.ceil() as i32, port::saturating_i32(port::probe_ceil(x))),
         helper!(22, "i32 of the ceiling, + 1", |x| (x.ceil() as i32).saturating_add(1), port::next_i32(port::saturating_i32(port::probe_ceil(x)))),
@@ -123,7 +128,7 @@ fn helpers() -> Vec<Helper> {
 }
 
 /// The helpers whose answers are bytes: a sweep must reach all 256.
-const BYTES: [&str; 1] = ["saturating_u8"];
+const BYTES: [&str; 3] = ["saturating_u8", "to_byte", "rounded_byte"];
 
 fn run(ctx: &mut Ctx) {
     pairs(ctx);
@@ -188,6 +193,7 @@ fn sweep(ctx: &mut Ctx) {
         let mut reached = [false; 256];
         for n in -600i16..=600 {
             reached[(helper.port)(f32::from(n)).n as usize & 0xff] = true;
+            reached[(helper.port)(f32::from(n) / 255.0).n as usize & 0xff] = true;
         }
         let name = format!("bytes that {} gave", helper.name);
         ctx.tally.add(&name, reached.iter().filter(|&&r| r).count() as u64);
