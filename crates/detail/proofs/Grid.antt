@@ -3,17 +3,20 @@
 use Prim.Native.Nat.{ℕ, zero, suc, _+_, _-_, _*_, _/_, _%_, _^_, _≤_, _<_}
 use mathlib.Core.Path.{_≡_, refl, sym, ap, subst, subst₂, _∙_}
 use mathlib.Core.Bool.{Bool, true, false, _&&_}
+use mathlib.Core.List.{List}
 use native.Mathlib.Decide.{decLt}
 use native.Mathlib.Nat.{mul-one, one-mul, mul-assoc, mul-right-comm, mul-lt-mul-of-pos-right, mul-le-mul-right, lt-of-mul-lt-mul-right, lt-of-not-le, not-le-of-lt, lt-of-lt-of-le, lt-of-le-of-lt, le-trans, le-of-lt, le-div-iff-mul-le, pow-le-pow-left, pow-lt-pow-left, one-le-pow}
 use native.Mathlib.Omega.{arith}
 use lib.Dec.{T, leb, ltb, eqb, leb→le, ltb→lt}
 use lib.IntN.{ℤ, pos, negsuc}
+use lib.ListN.{length}
 use lib.Pow.{pow-pos, pow-mono, pow-add}
 use lib.Ieee.{Float, nan, inf, fin, up, down, binary64, lt, fits}
 use lib.Ieee.Fits.{and-l, and-r}
 use lib.Ieee.Positive.{num, den, positive, den-pos}
-use Rattle.detail.specs.Steps.{Entry}
+use Rattle.detail.specs.Steps.{Entry, Thresholds}
 use Rattle.detail.proofs.Powers.{mul-pow}
+use Rattle.detail.proofs.Table.{every, at}
 use Rattle.detail.proofs.Fractions.{below}
 
 digits : (m : ℕ) (e : ℤ) → T (fits binary64 (fin false (suc m) e)) → suc m < 2 ^ 53
@@ -102,3 +105,6 @@ module _ (i : ℕ) (m : Float) (t : T (right i m)) where
     reaches = leb→le (2 ^ i * den m ^ 128) (num m ^ 128) (and-l (leb (2 ^ i * den m ^ 128) (num m ^ 128)) (ltb (((num m * 2 ^ 52 - 1) / den m) ^ 128) (2 ^ i * (2 ^ 52) ^ 128)) rest);
     first = none-before;
   }
+
+pub thresholds : (xs : List Float) → T (every right 0 xs) → length xs ≡ 128 → Thresholds xs
+thresholds xs t l = record { entry = λ i h. rule i _ (at right nan xs t i (rw l h)) }

@@ -15,8 +15,8 @@ pub record Entry (i : ℕ) (m : Float) : Type 0 where
   pub first : (q : Float) → T (fits binary64 q) → T (positive q) → lt q m ≡ true → num q ^ 128 < 2 ^ i * den q ^ 128
 
 -- the table of 128 thresholds
-abbrev pub Thresholds : List Float → Type 0
-Thresholds t = (i : ℕ) → i < 128 → Entry i (getD t i nan)
+pub record Thresholds (t : List Float) : Type 0 where
+  pub entry : (i : ℕ) → i < 128 → Entry i (getD t i nan)
 
 -- 2 ^ n ≤ q ^ 128
 abbrev pub Reached : Float → ℕ → Type 0

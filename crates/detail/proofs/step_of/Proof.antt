@@ -21,10 +21,10 @@ loop-holds : tie.Need-loop-holds Inv-loop μ-loop
 loop-holds c = (omega arith, c .start .ensures .1)
 
 returns : tie.Need-returns Inv-loop μ-loop
-returns c = (omega arith, stop _ _ _ (c .before .before .before .before .before .pre .0 _ (omega arith)) (subst T (sym (c .before .before .before .before .before .good .1 .0 .1)) tt) (c .before .before .before .before .before .pre .1 .0) (c .if1 .taken) (c .before .before .before .loop .inv .1))
+returns c = (omega arith, stop _ _ _ (c .before .before .before .before .before .pre .0 .entry _ (omega arith)) (subst T (sym (c .before .before .before .before .before .good .1 .0 .1)) tt) (c .before .before .before .before .before .pre .1 .0) (c .if1 .taken) (c .before .before .before .loop .inv .1))
 
 loop-again : tie.Need-loop-again Inv-loop μ-loop
-loop-again c = (omega arith, reach _ _ _ (c .before .before .before .before .before .pre .0 _ (omega arith)) (c .before .before .before .before .before .pre .1 .0) (c .if1 .left))
+loop-again c = (omega arith, reach _ _ _ (c .before .before .before .before .before .pre .0 .entry _ (omega arith)) (c .before .before .before .before .before .pre .1 .0) (c .if1 .left))
 
 last : (i : ℕ) → i ≤ 127 → 127 ≤ i → i ≡ 127
 last i h k = omega arith
