@@ -111,20 +111,14 @@ module _ {State Answer Place Call : Type 0} (M : Machine State Answer Place Call
       go true p x = absurd (none-some (sym (rw p at (x .0))))
       go false p x = (rw p at (x .0), M .places .same-trans l s _ _ (laws (m .call) .frame s l p) (x .1))
 
-  -- a place that no call writes, from any state in which B holds, is the same at every moment, and B holds there
-  pub kept-places : (Kept : Place → Type 0) (B : State → Type 0)
-      → ((c : Call) (s : State) → B s → ((l : Place) → Kept l → M .act c .writes s l ≡ false) × B (next M c s))
-      → (ms : Turns M) (s : State) (w : Last M) → B s
-      → (e : Moment State Place Call) → In e (moments M ms s w) → B (e .before) × ((l : Place) → Kept l → Same l s (e .before))
+  -- a place that no call ever writes is at every moment as it began
+  pub still : (l : Place) → ((c : Call) (s : State) → M .act c .writes s l ≡ false) → (ms : Turns M) (s : State) (w : Last M)
+      → (e : Moment State Place Call) → In e (moments M ms s w) → Same l s (e .before)
   unfolding moments
-  kept-places Kept B h [] s w b e i = absurd i
-  kept-places Kept B h (m ∷ ms) s w b e (inl p) =
-      subst (λ (x : Moment State Place Call). B (x .before) × ((l : Place) → Kept l → Same l s (x .before))) (sym p) (b, λ l k. M .places .same-refl l s)
-  kept-places Kept B h (m ∷ ms) s w b e (inr i) =
-      let here = h (m .call) s b in
-      let there : B (e .before) × ((l : Place) → Kept l → Same l (next M (m .call) s) (e .before))
-      = kept-places Kept B h ms (next M (m .call) s) (mark M m s w) (here .1) e i in
-      (there .0, λ l k. M .places .same-trans l s _ _ (laws (m .call) .frame s l (here .0 l k)) (there .1 l k))
+  still l h [] s w e i = absurd i
+  still l h (m ∷ ms) s w e (inl p) = subst (λ (x : Moment State Place Call). Same l s (x .before)) (sym p) (M .places .same-refl l s)
+  still l h (m ∷ ms) s w e (inr i) =
+      M .places .same-trans l s _ _ (laws (m .call) .frame s l (h (m .call) s)) (still l h ms (next M (m .call) s) (mark M m s w) e i)
 
   -- A fact that every writer of a place has, the place's last writer has: at every moment, and in the end.
   module _ (Fact : Guest → Place → Type 0) where
