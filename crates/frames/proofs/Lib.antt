@@ -1,2 +1,4 @@
 pub mod Pixels
+pub mod Fragments
+pub mod Calls
 pub mod Windows
