@@ -79,15 +79,14 @@ map-same : {A : Type 0} (f g : ℕ → A) (ns : List ℕ) → ((n : ℕ) → In 
 map-same f g [] h = refl
 map-same f g (n ∷ ns) h = ap₂ (λ x y. x ∷ y) (h n (inl refl)) (map-same f g ns (λ m i. h m (inr i)))
 
+-- on states with B: the law of its fragments, each in the scissor box, and the pixels of the box on the target
 module _ {Texture Item C : Type 0} (canvas : Canvas C) (names : List ℕ) (within : ℕ → ℕ → ℕ → Bool) (work : ℕ → ℕ → List Texture → Work Item C)
-    (law : (w h : ℕ) (rs : List Texture) → FragLocal canvas (work w h rs))
-    (boxed : (w h : ℕ) (rs : List Texture) (i : Item) → In i (work w h rs .items) → within w h (work w h rs .at i) ≡ true) where
+    (B : State Texture → Type 0)
+    (law : (s : State Texture) → B s → FragLocal canvas (workOn canvas names within work s))
+    (boxed : (s : State Texture) → B s → (i : Item) → In i (workOn canvas names within work s .items) → within (s .width) (s .height) (workOn canvas names within work s .at i) ≡ true)
+    (room : (s : State Texture) → B s → (p : ℕ) → within (s .width) (s .height) p ≡ true → (p * 4 + 4 ≤ length (s .colors)) × (p < length (s .depths))) where
   abbrev Painting : Act (State Texture) Answer Place
   Painting = paints canvas names within work
-
-  -- the pixels of the box have their bytes and depths on the target
-  abbrev pub Roomy : State Texture → Type 0
-  Roomy s = (p : ℕ) → within (s .width) (s .height) p ≡ true → (p * 4 + 4 ≤ length (s .colors)) × (p < length (s .depths))
 
   abbrev begun : State Texture → C
   begun s = canvas .begin (s .colors) (s .depths)
@@ -99,9 +98,9 @@ module _ {Texture Item C : Type 0} (canvas : Canvas C) (names : List ℕ) (withi
   begun-shown : (s : State Texture) (p : ℕ) → shown canvas (begun s) p ≡ pixelAt (s .colors) (s .depths) p
   begun-shown s p = ap₂ (λ x y. pixelAt x y p) (canvas .begin-colors (s .colors) (s .depths)) (canvas .begin-depths (s .colors) (s .depths))
 
-  fit : (s : State Texture) → Roomy s → AllFit canvas (W s .at) (W s .items) (begun s)
-  fit s room i m =
-      let q = room _ (boxed (s .width) (s .height) (map (s .textures) names) i m) in
+  fit : (s : State Texture) → B s → AllFit canvas (W s .at) (W s .items) (begun s)
+  fit s ok i m =
+      let q = room s ok _ (boxed s ok i m) in
       (rw (canvas .begin-colors (s .colors) (s .depths)) (q .0), rw (canvas .begin-depths (s .colors) (s .depths)) (q .1))
 
   begun-both : (s t : State Texture) → ((l : Place) → PaintReads canvas names within work s l → Same l s t)
@@ -124,23 +123,23 @@ module _ {Texture Item C : Type 0} (canvas : Canvas C) (names : List ℕ) (withi
       let r : map (s .textures) names ≡ map (t .textures) names = map-same (s .textures) (t .textures) names (λ n i. g (texture n) i) in
       rw (z .same-width, z .same-height, r)
 
-  painted-both : (s t : State Texture) → Roomy s → ((l : Place) → PaintReads canvas names within work s l → Same l s t)
+  painted-both : (s t : State Texture) → B s → ((l : Place) → PaintReads canvas names within work s l → Same l s t)
       → Both canvas (λ p. within (s .width) (s .height) p ≡ true) (painted canvas names within work s) (painted canvas names within work t)
-  painted-both s t room g =
+  painted-both s t ok g =
       subst (λ (w : Work Item C). Both canvas (λ p. within (s .width) (s .height) p ≡ true) (painted canvas names within work s) (paint (w .step (t .store)) (w .items) (begun t)))
       (same-work s t g)
-      (paint-both canvas (W s) (law (s .width) (s .height) (map (s .textures) names)) (λ p. within (s .width) (s .height) p ≡ true) (s .store) (t .store) (W s .items) (begun s) (begun t)
-      (fit s room) (boxed (s .width) (s .height) (map (s .textures) names)) (λ b i. g (byte b) i) (begun-both s t g))
+      (paint-both canvas (W s) (law s ok) (λ p. within (s .width) (s .height) p ≡ true) (s .store) (t .store) (W s .items) (begun s) (begun t)
+      (fit s ok) (boxed s ok) (λ b i. g (byte b) i) (begun-both s t g))
 
-  painted-local : LocalOn places Roomy Painting
+  painted-local : LocalOn places B Painting
   painted-local = record { alike-on = alike; frame-on = frame }
     where
-      after : (s t : State Texture) → Roomy s → Agree places Painting s t → (l : Place) → paintWrites canvas names within work s l ≡ true
+      after : (s t : State Texture) → B s → Agree places Painting s t → (l : Place) → paintWrites canvas names within work s l ≡ true
           → Same l (Painting .does s .1) (Painting .does t .1)
-      after s t room g sizes e = absurd (true≢false (sym e))
-      after s t room g (pixel p) e = painted-both s t room g .both-shown p e
-      after s t room g (byte b) e = absurd (true≢false (sym e))
-      after s t room g (texture n) e = absurd (true≢false (sym e))
+      after s t ok g sizes e = absurd (true≢false (sym e))
+      after s t ok g (pixel p) e = painted-both s t ok g .both-shown p e
+      after s t ok g (byte b) e = absurd (true≢false (sym e))
+      after s t ok g (texture n) e = absurd (true≢false (sym e))
 
       print : (s t : State Texture) → SameSizes s t → (l : Place) → paintWrites canvas names within work s l ≡ paintWrites canvas names within work t l
       print s t z sizes = refl
@@ -148,12 +147,12 @@ module _ {Texture Item C : Type 0} (canvas : Canvas C) (names : List ℕ) (withi
       print s t z (byte b) = refl
       print s t z (texture n) = refl
 
-      alike : (s t : State Texture) → Roomy s → Roomy t → Agree places Painting s t → Alike places Painting s t
-      alike s t room r g = record { answer = ap drew (painted-both s t room g .both-count); footprint = print s t (g sizes tt); written = after s t room g }
+      alike : (s t : State Texture) → B s → B t → Agree places Painting s t → Alike places Painting s t
+      alike s t ok fine g = record { answer = ap drew (painted-both s t ok g .both-count); footprint = print s t (g sizes tt); written = after s t ok g }
 
-      frame : (s : State Texture) (l : Place) → Roomy s → paintWrites canvas names within work s l ≡ false → Same l s (Painting .does s .1)
-      frame s sizes room e =
-          let k = paint-lengths canvas (W s) (law (s .width) (s .height) (map (s .textures) names)) (s .store) (W s .items) (begun s) in
+      frame : (s : State Texture) (l : Place) → B s → paintWrites canvas names within work s l ≡ false → Same l s (Painting .does s .1)
+      frame s sizes ok e =
+          let k = paint-lengths canvas (W s) (law s ok) (s .store) (W s .items) (begun s) in
           record {
             same-width = refl;
             same-height = refl;
@@ -161,15 +160,15 @@ module _ {Texture Item C : Type 0} (canvas : Canvas C) (names : List ℕ) (withi
             same-colors = sym (k .0 ∙ ap length (canvas .begin-colors (s .colors) (s .depths)));
             same-depths = sym (k .1 ∙ ap length (canvas .begin-depths (s .colors) (s .depths)));
           }
-      frame s (pixel p) room e =
-          sym (paint-other canvas (W s) (law (s .width) (s .height) (map (s .textures) names)) (s .store) (W s .items) (begun s) p (fit s room)
-          (λ i m q. true≢false (sym (boxed (s .width) (s .height) (map (s .textures) names) i m) ∙ subst (λ (k : ℕ). within (s .width) (s .height) k ≡ false) q e))
+      frame s (pixel p) ok e =
+          sym (paint-other canvas (W s) (law s ok) (s .store) (W s .items) (begun s) p (fit s ok)
+          (λ i m q. true≢false (sym (boxed s ok i m) ∙ subst (λ (k : ℕ). within (s .width) (s .height) k ≡ false) q e))
           ∙ begun-shown s p)
-      frame s (byte b) room e = refl
-      frame s (texture n) room e = refl
+      frame s (byte b) ok e = refl
+      frame s (texture n) ok e = refl
 
-  -- on targets with room for its box, a draw past its checks owes nothing more
-  pub paints-kept : KeptOn Roomy (λ s p. within (s .width) (s .height) p ≡ true) Painting
+  -- such a draw keeps the laws and its box
+  pub paints-kept : KeptOn B (λ s p. within (s .width) (s .height) p ≡ true) Painting
   paints-kept = record { laws = painted-local; keeps = λ s. refl; stays = λ s p b u. (refl, go s p u) }
     where
       go : (s : State Texture) (p : ℕ) → Uses Painting s (pixel p) → within (s .width) (s .height) p ≡ true
