@@ -32,19 +32,33 @@ module _ {Texture Call : Type 0} (act : Call → Act (State Texture) Answer Plac
   abbrev pub During : Moment (State Texture) Place Call → List (Turn Call) → State Texture → Type 0
   During e ms s = In e (moments machine ms s (nobody machine))
 
-  -- THE PREMISES, about the list ms from the start s
+  -- ---- The premises, about the list ms from the start s
+
+  -- No two windows share a pixel.
+  abbrev pub Disjoint : State Texture → Type 0
+  Disjoint s = (g h : Guest) → g ≢ h → (p : ℕ) → Window (s .width) (s .height) g p → Window (s .width) (s .height) h p → ⊥
+
+  -- Every clear and draw that is not refused has a scissor box within its guest's window.
+  abbrev pub Inside : List (Turn Call) → State Texture → Type 0
+  Inside ms s = (e : Moment (State Texture) Place Call) → During e ms s → isRefused (answer machine (e .turn .call) (e .before)) ≡ false
+      → (p : ℕ) → Box (s .width) (s .height) (e .turn .call) p → Window (s .width) (s .height) (e .turn .who) p
+
+  -- No guest writes a texture that another reads or writes.
+  abbrev pub TexturesApart : List (Turn Call) → State Texture → Type 0
+  TexturesApart ms s = (e f : Moment (State Texture) Place Call) → During e ms s → During f ms s → e .turn .who ≢ f .turn .who
+      → (n : ℕ) → WritesAt machine e (texture n) → ReadsAt machine f (texture n) ⊎ WritesAt machine f (texture n) → ⊥
+
+  -- No guest reads a texel byte that another wrote last.
+  abbrev pub BytesApart : List (Turn Call) → State Texture → Type 0
+  BytesApart ms s = (e : Moment (State Texture) Place Call) → During e ms s
+      → (b : ℕ) → ReadsAt machine e (byte b) → Own (e .turn .who) (e .last (byte b))
+
+  -- THE PREMISES
   pub record Premises (ms : List (Turn Call)) (s : State Texture) : Type 0 where
-    -- no two windows share a pixel
-    pub disjoint : (g h : Guest) → g ≢ h → (p : ℕ) → Window (s .width) (s .height) g p → Window (s .width) (s .height) h p → ⊥
-    -- every clear and draw that is not refused has a scissor box within its guest's window
-    pub inside : (e : Moment (State Texture) Place Call) → During e ms s → isRefused (answer machine (e .turn .call) (e .before)) ≡ false
-        → (p : ℕ) → Box (s .width) (s .height) (e .turn .call) p → Window (s .width) (s .height) (e .turn .who) p
-    -- no guest writes a texture that another reads or writes
-    pub textures : (e f : Moment (State Texture) Place Call) → During e ms s → During f ms s → e .turn .who ≢ f .turn .who
-        → (n : ℕ) → WritesAt machine e (texture n) → ReadsAt machine f (texture n) ⊎ WritesAt machine f (texture n) → ⊥
-    -- no guest reads a texel byte that another wrote last
-    pub bytes : (e : Moment (State Texture) Place Call) → During e ms s
-        → (b : ℕ) → ReadsAt machine e (byte b) → Own (e .turn .who) (e .last (byte b))
+    pub disjoint : Disjoint s
+    pub inside : Inside ms s
+    pub textures : TexturesApart ms s
+    pub bytes : BytesApart ms s
 
   -- THE CLAIM, about the list ms from the start s
   pub record Claim (ms : List (Turn Call)) (s : State Texture) : Type 0 where

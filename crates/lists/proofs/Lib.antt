@@ -3,3 +3,4 @@ pub mod Tables
 pub mod Rows
 pub mod Turns
 pub mod Search
+pub mod Pastes
