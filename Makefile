@@ -1,9 +1,28 @@
 # make test     the gate: rt ci over every crate, then the comparison with the Rust and the benchmark's own check
-# make lib      target/staticlib/libtilefringe.a and libprobes.a (after rt ci, they reuse what it proved)
+# make lib      the archives of the exported crates, target/staticlib/lib*.a (after rt ci they reuse what it proved)
+# make record   the Rust's answers written anew to crates/replay_*
 
-.PHONY: test
+# The crates that are exported for C and Rust to link.
+EXPORTED = probes
+
+.PHONY: test lib differential-check bench-check record
+
 test:
 	@rt version
 	@mkdir -p log
 	@ok=0; rt ci > log/ci 2>&1 || ok=1; cat log/ci; \
+	if [ $$ok = 0 ]; then $(MAKE) --no-print-directory lib && $(MAKE) --no-print-directory differential-check && $(MAKE) --no-print-directory bench-check || ok=1; fi; \
 	if [ $$ok = 0 ]; then tail -n 1 log/ci; else echo "make test: FAILED"; exit 1; fi
+
+lib:
+	@for crate in $(EXPORTED); do rt staticlib $$crate || exit 1; done
+
+# Exit status 3 of a run: the Rust's source is not at hand, which is a failure only where CI=true.
+differential-check:
+	@differential/run || { s=$$?; [ $$s = 3 ] && [ "$${CI:-}" != true ]; }
+
+bench-check:
+	@bench/run --check || { s=$$?; [ $$s = 3 ] && [ "$${CI:-}" != true ]; }
+
+record: lib
+	@differential/run --record

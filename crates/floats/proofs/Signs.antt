@@ -29,7 +29,7 @@ abs-below (fin true m d) e = refl
 abs-below (fin false m d) e = absurd (omega (arith, ltb-true (m * up d * 1) (0 * 1 * down d) e))
 
 -- a zero of the format has the exponent 0
-zero-exponent : (s : Bool) (e : ℤ) → T (fits binary32 (fin s zero e)) → e ≡ pos 0
+pub zero-exponent : (s : Bool) (e : ℤ) → T (fits binary32 (fin s zero e)) → e ≡ pos 0
 unfolding fits
 zero-exponent s (pos zero) f = refl
 zero-exponent s (pos (suc k)) f = absurd (omega (arith, eqb→eq (2 ^ suc k * 1) 1 f, pow-succ' 2 k, pow-pos k))

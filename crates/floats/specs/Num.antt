@@ -1,6 +1,6 @@
 -- f32 arithmetic as the definitions write it, and the operations of Rust's f32 that Rattle has no operator for.
 -- A float literal is written by its bits.
-use Prim.Native.Nat.{ℕ, zero, suc, _+_, _*_}
+use Prim.Native.Nat.{ℕ, _*_}
 use mathlib.Core.Bool.{Bool, true, false, cond}
 use lib.Dec.{leb}
 use lib.IntN.{pos}

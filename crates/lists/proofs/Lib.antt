@@ -3,3 +3,5 @@ pub mod Tables
 pub mod Rows
 pub mod Turns
 pub mod Search
+pub mod Members
+pub mod Pastes

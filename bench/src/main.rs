@@ -1,0 +1,147 @@
+//! `bench/run`: port and Rust in one process, on the same inputs, taking turns; the best of several rounds counts.
+mod workloads;
+
+use std::process::ExitCode;
+use std::time::{Duration, Instant};
+
+/// One line of the report.
+pub trait Workload {
+    fn name(&self) -> &'static str;
+    /// The greatest ratio that --check lets pass.
+    fn bar(&self) -> Option<f64>;
+    /// How many floats, pixels, samples or calls one turn does: times are per unit.
+    fn units(&self) -> u64;
+    /// One turn of the port.
+    fn port(&mut self);
+    /// One turn of the Rust.
+    fn rust(&mut self);
+    /// Whether a turn of each left the same.
+    fn agree(&self) -> bool;
+}
+
+struct Effort {
+    rounds: u32,
+    /// How long each side runs in a round.
+    slice: Duration,
+    /// How often a line that misses its bar is measured again.
+    again: u32,
+}
+
+const WHOLE: Effort = Effort { rounds: 15, slice: Duration::from_millis(30), again: 0 };
+const BRIEF: Effort = Effort { rounds: 6, slice: Duration::from_millis(8), again: 12 };
+
+const USAGE: &str = "bench/run [--check] [NAME..]
+
+A line for each workload: NAME port_ns rust_ns ratio. Times are per unit (docs/BENCHMARKS.md says which);
+a ratio below 1 means that the port is faster.
+
+  --check   measure briefly, and fail where a line misses its bar
+  --list    the names and bars
+  --help    this text
+
+Exit status: 0; 1 a bar was missed or the two sides disagree; 2 bad arguments.
+";
+
+/// Nanoseconds per unit, the best of the rounds for each side.
+#[derive(Clone, Copy)]
+struct Best {
+    port: f64,
+    rust: f64,
+}
+
+impl Best {
+    fn ratio(self) -> f64 {
+        self.port / self.rust
+    }
+}
+
+/// How many turns take about `slice`.
+fn turns(slice: Duration, mut turn: impl FnMut()) -> u64 {
+    let mut n = 1u64;
+    loop {
+        let start = Instant::now();
+        for _ in 0..n {
+            turn();
+        }
+        let took = start.elapsed();
+        if took * 2 >= slice {
+            return n;
+        }
+        n *= 2;
+    }
+}
+
+fn timed(n: u64, units: u64, mut turn: impl FnMut()) -> f64 {
+    let start = Instant::now();
+    for _ in 0..n {
+        turn();
+    }
+    start.elapsed().as_nanos() as f64 / (n * units) as f64
+}
+
+fn measure(work: &mut dyn Workload, effort: &Effort, mut best: Best) -> Best {
+    let units = work.units();
+    let port_turns = turns(effort.slice, || work.port());
+    let rust_turns = turns(effort.slice, || work.rust());
+    for _ in 0..effort.rounds {
+        best.port = best.port.min(timed(port_turns, units, || work.port()));
+        best.rust = best.rust.min(timed(rust_turns, units, || work.rust()));
+    }
+    best
+}
+
+fn line(work: &mut dyn Workload, effort: &Effort) -> Result<(), String> {
+    work.port();
+    work.rust();
+    if !work.agree() {
+        return Err(format!("{}: the two sides do not agree", work.name()));
+    }
+    let mut best = measure(work, effort, Best { port: f64::INFINITY, rust: f64::INFINITY });
+    let bar = work.bar().unwrap_or(f64::INFINITY);
+    for _ in 0..effort.again {
+        if best.ratio() <= bar {
+            break;
+        }
+        best = measure(work, effort, best);
+    }
+    println!("{} {:.3} {:.3} {:.2}", work.name(), best.port, best.rust, best.ratio());
+    if effort.again > 0 && best.ratio() > bar {
+        return Err(format!("{}: ratio {:.2} misses the bar of {bar}", work.name(), best.ratio()));
+    }
+    Ok(())
+}
+
+fn main() -> ExitCode {
+    let (mut check, mut names) = (false, Vec::new());
+    let mut all = workloads::all();
+    for word in std::env::args().skip(1) {
+        match word.as_str() {
+            "--help" | "-h" => {
+                print!("{USAGE}");
+                return ExitCode::SUCCESS;
+            }
+            "--list" => {
+                for work in &all {
+                    println!("{} {}", work.name(), work.bar().map_or("no bar".to_string(), |bar| bar.to_string()));
+                }
+                return ExitCode::SUCCESS;
+            }
+            "--check" => check = true,
+            name if all.iter().any(|work| work.name() == name) => names.push(word),
+            _ => {
+                eprintln!("bench/run: no workload or option {word:?} (--list and --help say what there is)");
+                return ExitCode::from(2);
+            }
+        }
+    }
+    let mut status = ExitCode::SUCCESS;
+    for work in &mut all {
+        if names.is_empty() || names.iter().any(|name| name == work.name()) {
+            if let Err(words) = line(work.as_mut(), if check { &BRIEF } else { &WHOLE }) {
+                println!("BENCH FAILED {words}");
+                status = ExitCode::from(1);
+            }
+        }
+    }
+    status
+}

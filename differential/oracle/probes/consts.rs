@@ -1,0 +1,3 @@
+
+/// consts.rs has nothing private.
+pub mod probe {}
