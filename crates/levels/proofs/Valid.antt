@@ -6,7 +6,7 @@ use Prim.Native.Nat.{ℕ, zero, suc, _+_, _≤_, _<_}
 use native.Mathlib.Omega.{arith}
 use lib.Dec.{leb, ltb, eqb, leb·zero}
 use lib.ListN.{length, getD, set, drop}
-use borrow.Author.Tests.{leb-true, leb-false, ltb-true, eqb-true, le-leb, lt-ltb, le-ltb}
+use borrow.Author.Tests.{leb-true, leb-false, ltb-true, eqb-true, le-leb, lt-ltb, le-ltb, eq-eqb}
 use Rattle.lists.specs.Lists.{any, all}
 use Rattle.lists.proofs.Choice.{was-true, was-false, true-false}
 use Rattle.lists.proofs.Members.{all-getD}
@@ -116,3 +116,8 @@ module _ (n : ℕ) (m : MipLevel) (p : m .present ≡ true) (w : m .width ≤ 10
 
   pub fits-within : fits n m ≡ true → ltb n (m .place + sizeOf m) ≡ false
   fits-within e = le-ltb n (m .place + sizeOf m) (leb-true (m .place + sizeOf m) n (sym fits-end ∙ e))
+
+pub valid-make : (n : ℕ) (t : Texture) → all (fits n) (levelsOf (t .levels)) ≡ true → apart (levelsOf (t .levels)) ≡ true
+    → t .«max_mipmap_level» ≡ topOf (levelsOf (t .levels)) → validOf n t ≡ true
+unfolding validOf validLevels
+valid-make n t a b e = rw (a, b) (eq-eqb (t .«max_mipmap_level») (topOf (levelsOf (t .levels))) e)
