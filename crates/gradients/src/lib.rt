@@ -58,7 +58,12 @@ fn barycentric_dy(x: PerCorner, inv_area: f32) -> PerCorner
 }
 
 // The corners' screen x and y, their 1/w, and 1/area.
-pub fn derivatives(x: PerCorner, y: PerCorner, inv_w: PerCorner, inv_area: f32) -> TriangleDerivatives
+pub fn derivatives(
+    x: PerCorner,
+    y: PerCorner,
+    inv_w: PerCorner,
+    inv_area: f32,
+) -> TriangleDerivatives
     ensures { λ r. ⌜ r ≡ derivativesOf x y «inv_w» «inv_area» ⌝ }
 {
     let dx = barycentric_dx(y, inv_area);

@@ -104,14 +104,12 @@ pub fn screen_vertex(view: View, range: DepthRange, vertex: Vertex) -> Corner
     if !ndc_fits(x, y, z) {
         return Corner::Nothing;
     }
-    Corner::Kept(
-        ScreenVertex {
-            x: screen_x(view, x),
-            y: screen_y(view, y),
-            z: screen_z(range, z),
-            inv_w,
-        },
-    )
+    Corner::Kept(ScreenVertex {
+        x: screen_x(view, x),
+        y: screen_y(view, y),
+        z: screen_z(range, z),
+        inv_w,
+    })
 }
 
 // Twice the triangle's area. Rows count downwards, so a counter-clockwise triangle has a negative one.

@@ -62,7 +62,7 @@ screen-z-requires c κs = search needs
 -- src/lib.rt:92:1
 returns-3 : tie.Need-returns-3
 unfolding screenOf
-returns-3 c = 
+returns-3 c =
     rw (c .before .before .screen-x .ensures, c .before .screen-y .ensures, c .screen-z .ensures)
     (corner-kept (c .before .before .before .before .before .before .before .before .args .view) (c .before .before .before .before .before .before .before .before .args .range) (c .before .before .before .before .before .before .before .before .args .vertex) (sym (c .before .before .before .before .before .before .w-fits .ensures) ∙ not-false _ (c .before .before .before .before .before .if1 .left)) (sym (c .before .before .before .before .ndc-fits .ensures) ∙ not-false _ (c .before .before .before .if2 .left)))
 
