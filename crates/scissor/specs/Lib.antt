@@ -1,0 +1,2 @@
+pub mod Scissor
+pub mod Check
