@@ -9,8 +9,8 @@ for file in raster texture consts; do
 done
 root=$PWD
 export CARGO_HOME="$root/target/cargo-home" CARGO_TARGET_DIR="$root/target/cargo"
-case $source in /*) ;; *) source=$root/$source ;; esac
-export POCKETHLE_SRC="$source"
+POCKETHLE_SRC=$(cd "$source" && pwd)
+export POCKETHLE_SRC
 mkdir -p "$CARGO_HOME"
 if ! (cd differential && cargo build --release --offline --locked --quiet); then
     echo "cargo build failed" >&2

@@ -5,7 +5,7 @@ use std::hint::black_box;
 const COUNT: usize = 16_384;
 
 pub fn workloads() -> Vec<Box<dyn Workload>> {
-    vec![Box::new(Casts::new())]
+    vec![Box::new(ToByte::new()), Box::new(Floor::new())]
 }
 
 /// Floats around 0 to 1, a few of them far off.
@@ -20,21 +20,62 @@ fn inputs() -> Vec<f32> {
         .collect()
 }
 
-struct Casts {
+struct ToByte {
     src: Vec<f32>,
     port: Vec<u8>,
     rust: Vec<u8>,
 }
 
-impl Casts {
+impl ToByte {
     fn new() -> Self {
         Self { src: inputs(), port: vec![0; COUNT], rust: vec![0; COUNT] }
     }
 }
 
-impl Workload for Casts {
+impl Workload for ToByte {
     fn name(&self) -> &'static str {
-        "saturating_u8"
+        "to_byte"
+    }
+
+    fn bar(&self) -> Option<f64> {
+        Some(0.5)
+    }
+
+    fn units(&self) -> u64 {
+        COUNT as u64
+    }
+
+    fn port(&mut self) {
+        port::floats::to_bytes(black_box(&self.src), black_box(&mut self.port));
+    }
+
+    fn rust(&mut self) {
+        for (out, &x) in black_box(&mut self.rust).iter_mut().zip(black_box(&self.src)) {
+            *out = oracle::raster::probe::to_byte(x);
+        }
+    }
+
+    fn agree(&self) -> bool {
+        self.port == self.rust
+    }
+}
+
+struct Floor {
+    src: Vec<f32>,
+    port: Vec<f32>,
+    rust: Vec<f32>,
+}
+
+impl Floor {
+    fn new() -> Self {
+        let src = inputs().iter().map(|x| x * 1000.0).collect();
+        Self { src, port: vec![0.0; COUNT], rust: vec![0.0; COUNT] }
+    }
+}
+
+impl Workload for Floor {
+    fn name(&self) -> &'static str {
+        "floor"
     }
 
     fn bar(&self) -> Option<f64> {
@@ -46,16 +87,16 @@ impl Workload for Casts {
     }
 
     fn port(&mut self) {
-        port::floats::saturating_u8s(black_box(&self.src), black_box(&mut self.port));
+        port::floats::floors(black_box(&self.src), black_box(&mut self.port));
     }
 
     fn rust(&mut self) {
-        for (out, &x) in black_box(&mut self.rust).iter_mut().zip(black_box(&self.src)) {
-            *out = x as u8;
+        for (out, x) in black_box(&mut self.rust).iter_mut().zip(black_box(&self.src)) {
+            *out = x.floor();
         }
     }
 
     fn agree(&self) -> bool {
-        self.port == self.rust
+        self.port.iter().zip(&self.rust).all(|(a, b)| a.to_bits() == b.to_bits())
     }
 }

@@ -4,3 +4,4 @@ pub mod Rows
 pub mod Turns
 pub mod Search
 pub mod Members
+pub mod Pastes

@@ -3,7 +3,7 @@
 /// The smallest input found: steps to any smaller candidate that still fails, until none does.
 pub fn smallest<I: Clone>(start: &I, smaller: impl Fn(&I) -> Vec<I>, fails: impl Fn(&I) -> bool) -> I {
     let mut best = start.clone();
-    let mut budget = 20_000u32;
+    let mut budget = 3_000u32;
     'again: loop {
         for candidate in smaller(&best) {
             if budget == 0 {

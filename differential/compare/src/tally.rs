@@ -3,7 +3,7 @@ use crate::shrink;
 use std::collections::BTreeMap;
 use std::fmt::Debug;
 
-/// How many differences of a part are printed whole.
+/// How many differences of a part are printed whole; a worker shrinks the first that it finds.
 const SHOWN: usize = 3;
 
 /// What one worker has done.
@@ -15,6 +15,7 @@ pub struct Tally {
     /// The greatest value told under each name.
     greatest: BTreeMap<String, f64>,
     messages: Vec<String>,
+    shrunk: bool,
 }
 
 impl Tally {
@@ -56,7 +57,8 @@ impl Tally {
         let (reached, difference) = check(input);
         if difference.is_some() {
             self.differences += 1;
-            if self.messages.len() < SHOWN {
+            if !self.shrunk {
+                self.shrunk = true;
                 let least = shrink::smallest(input, smaller, |i| check(i).1.is_some());
                 let words = check(&least).1.unwrap_or_default();
                 self.messages.push(format!("{words}\n    smallest input: {least:?}\n    found as: {input:?}"));
@@ -68,7 +70,7 @@ impl Tally {
     /// A difference that has no input to shrink.
     pub fn difference(&mut self, words: String) {
         self.differences += 1;
-        if self.messages.len() < SHOWN {
+        if self.messages.len() < 4 * SHOWN {
             self.messages.push(words);
         }
     }
@@ -82,8 +84,11 @@ impl Tally {
         for (name, value) in other.greatest {
             self.greatest(&name, value);
         }
-        self.messages.extend(other.messages);
-        self.messages.truncate(SHOWN);
+        for message in other.messages {
+            if self.messages.len() < SHOWN {
+                self.messages.push(message);
+            }
+        }
     }
 
     pub(crate) fn counters(&self) -> &BTreeMap<String, u64> {

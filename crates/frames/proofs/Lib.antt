@@ -1,0 +1,5 @@
+pub mod Pixels
+pub mod Fragments
+pub mod Gather
+pub mod Calls
+pub mod Windows

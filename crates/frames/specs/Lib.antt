@@ -1,0 +1,4 @@
+pub mod State
+pub mod Windows
+pub mod Fragments
+pub mod Gather

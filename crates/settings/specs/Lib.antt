@@ -1,0 +1,3 @@
+pub mod Settings
+pub mod Compare
+pub mod Factor
