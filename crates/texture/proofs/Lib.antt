@@ -1,0 +1,4 @@
+pub mod Defining
+pub mod Patching
+pub mod Setting
+pub mod Written
