@@ -1,7 +1,7 @@
 -- A sample: the texel from the bytes at its addresses.
 use Prim.Native.Nat.{ℕ, _+_, _*_, _≤_, _<_}
 use mathlib.Core.Path.{_≡_}
-use mathlib.Core.Bool.{cond}
+use mathlib.Core.Bool.{true, cond}
 use mathlib.Core.List.{List}
 use lib.Dec.{eqb}
 use lib.ListN.{length, take, drop}
@@ -22,12 +22,17 @@ use Rattle.sampler.specs.declared.Sampled.{Sampled}
 use Rattle.sampler.specs.declared.SampleAnswer.{SampleAnswer}
 use Rattle.sampler.specs.declared.SampleAnswer.the-variants as Answer
 use Rattle.sampler.specs.Texels.{texelAt, white, linearTexel, partOf, mixTexel}
-use Rattle.sampler.specs.Addresses.{indexOf, levelsFor, addressesOf, bytesAt}
+use Rattle.sampler.specs.Addresses.{indexOf, filterAddresses, levelsFor, addressesOf, bytesAt}
 
 -- how many bytes a filter takes of one level
 abbrev pub taken : Filter → ℕ
 taken Nearest = 4
 taken Linear = 16
+
+-- how many bytes a sample takes of its levels
+abbrev pub countOf : Chosen → ℕ
+countOf (One k f) = taken f
+countOf (Two k f part) = taken f + taken f
 
 -- texture.rs, sample_filter: the texel of a level from the bytes at `filterAddresses`
 unfoldable pub filterTexel : Filter → MipLevel → Float → Float → List ℕ → Texel
@@ -47,6 +52,9 @@ texelFrom x p b = cond (complete (levelOf x 0)) (chosenTexel x (levelsFor x p) (
 -- Document 01, port order 4; texture.rs, sample_with_gradients
 unfoldable pub sampleOf : List ℕ → Texture → Coordinates → Texel
 sampleOf store x p = texelFrom x p (bytesAt store (addressesOf x p))
+
+unfoldable pub sampledOf : List ℕ → Texture → Coordinates → Sampled
+sampledOf store x p = record { texel = sampleOf store x p }
 
 -- ---- the operation
 
@@ -86,3 +94,12 @@ linearIn l width height ws wt s t =
     let y0 = firstOf wt t height in
     let y1 = secondOf wt t height in
     linearTexel (weightOf s width) (weightOf t height) (texelAt l (indexOf width x0 y0)) (texelAt l (indexOf width x1 y0)) (texelAt l (indexOf width x0 y1)) (texelAt l (indexOf width x1 y1))
+
+-- ---- of a valid record with level 0 complete
+pub record Readable (n : ℕ) (x : Texture) : Type 0 where
+  pub valid : validOf n x ≡ true
+  pub whole : complete (levelOf x 0) ≡ true
+  pub few : x .«max_mipmap_level» ≤ 10
+
+unfoldable pub levelTexel : List ℕ → Texture → ℕ → Filter → Float → Float → Texel
+levelTexel store x k f s t = filterTexel f (levelOf x k) s t (bytesAt store (filterAddresses f (levelOf x k) (x .«wrap_s») (x .«wrap_t») s t))

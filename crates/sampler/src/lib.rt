@@ -15,8 +15,8 @@ ghost use Rattle.coords.specs.Coords.{wrapCoord, firstOf, secondOf, weightOf};
 ghost use Rattle.mipmaps.specs.Mipmaps.{Within};
 ghost use Rattle.detail.specs.Steps.{Thresholds};
 ghost use Rattle.sampler.specs.Texels.{texelAt, white, linearByte, linearTexel, partOf, mixByte, mixTexel};
-ghost use Rattle.sampler.specs.Addresses.{indexOf, filterAddresses, bytesAt};
-ghost use Rattle.sampler.specs.Samples.{filterTexel, sampleOf, outcomeOf, sampleCall, Image, nearestIn, linearIn};
+ghost use Rattle.sampler.specs.Addresses.{indexOf, filterAddresses, chosenAddresses, bytesAt};
+ghost use Rattle.sampler.specs.Samples.{filterTexel, chosenTexel, levelTexel, sampleOf, sampledOf, outcomeOf, sampleCall, Image, Readable, nearestIn, linearIn};
 
 // Red, green, blue and alpha.
 pub struct Texel {
@@ -151,4 +151,108 @@ fn mix_texels(part: u32, a: Texel, b: Texel) -> Texel
         b: mix_byte(weight, a.b, b.b),
         a: mix_byte(weight, a.a, b.a),
     }
+}
+
+fn sample_level(
+    store: &[u8],
+    texture: Texture,
+    level: usize,
+    filter: Filter,
+    s: f32,
+    t: f32,
+) -> Texel
+    requires { ⌜ Readable (length (now store)) texture ⌝ ∗ ⌜ level ≤ texture .«max_mipmap_level» ⌝ }
+    ensures { λ r. ⌜ r ≡ levelTexel (now (store .entry)) texture level filter s t ⌝ }
+{
+    let m = texture.levels[level];
+    let wrap_s = texture.wrap_s;
+    let wrap_t = texture.wrap_t;
+    sample_filter(store, m, wrap_s, wrap_t, filter, s, t)
+}
+
+fn sample_chosen(store: &[u8], texture: Texture, chosen: Chosen, s: f32, t: f32) -> Texel
+    requires { ⌜ Readable (length (now store)) texture ⌝ ∗ ⌜ Within (texture .«max_mipmap_level») chosen ⌝ }
+    ensures { λ r. ⌜ r ≡ chosenTexel texture chosen s t (bytesAt (now (store .entry)) (chosenAddresses texture chosen s t)) ⌝ }
+{
+    match chosen {
+        Chosen::One { level, filter } => sample_level(store, texture, level, filter, s, t),
+        Chosen::Two {
+            level,
+            filter,
+            part,
+        } => {
+            let a = sample_level(store, texture, level, filter, s, t);
+            let b = sample_level(store, texture, level + 1, filter, s, t);
+            mix_texels(part, a, b)
+        }
+    }
+}
+
+// An array has as many elements as its type says.
+fn eleven(levels: [MipLevel; 11])
+    ensures { λ _. ⌜ length levels ≡ 11 ⌝ }
+{}
+
+fn white_texel() -> Texel
+    ensures { λ r. ⌜ r ≡ white ⌝ }
+{
+    Texel {
+        r: 255,
+        g: 255,
+        b: 255,
+        a: 255,
+    }
+}
+
+fn sample_texel(store: &[u8], table: &[f64; 128], texture: Texture, p: Coordinates) -> Texel
+    requires { ⌜ Thresholds (now table) ⌝ ∗ ⌜ validOf (length (now store)) texture ≡ true ⌝ }
+    ensures { λ r. ⌜ r ≡ sampleOf (now (store .entry)) texture p ⌝ }
+{
+    let levels = texture.levels;
+    eleven(levels);
+    let first = levels[0];
+    if first.width == 0 {
+        return white_texel();
+    }
+    if first.height == 0 {
+        return white_texel();
+    }
+    let min = texture.min_filter;
+    let mag = texture.mag_filter;
+    let chosen = mipmaps::chosen_levels(
+        table,
+        first.width,
+        first.height,
+        texture.max_mipmap_level,
+        min,
+        mag,
+        p,
+    );
+    sample_chosen(store, texture, chosen, p.s, p.t)
+}
+
+// A sample of a record that is known to be valid, with the table lent: what a draw does at each pixel.
+pub fn sample_with_gradients(
+    store: &[u8],
+    table: &[f64; 128],
+    texture: Texture,
+    p: Coordinates,
+) -> Sampled
+    requires { ⌜ Thresholds (now table) ⌝ ∗ ⌜ validOf (length (now store)) texture ≡ true ⌝ }
+    ensures { λ r. ⌜ r ≡ sampledOf (now (store .entry)) texture p ⌝ }
+{
+    Sampled {
+        texel: sample_texel(store, table, texture, p),
+    }
+}
+
+// The operation: refusal 8, else the texel.
+pub fn sample(store: &[u8], texture: Texture, p: Coordinates) -> SampleAnswer
+    ensures { λ r. ⌜ outcomeOf r ≡ sampleCall (now (store .entry)) texture p ⌝ }
+{
+    if !levels::is_valid(texture, store.len()) {
+        return SampleAnswer::Refused(Refusal::Record);
+    }
+    let table = detail::thresholds();
+    SampleAnswer::Sampled(sample_with_gradients(store, &table, texture, p))
 }

@@ -43,9 +43,9 @@ module _ (d : List ℕ) (p : ℕ) (s : List ℕ) (n : ℕ) (h : p + n ≤ length
   run-kept : inRun p n a ≡ false → getD (paste d p s n) a 0 ≡ getD d a 0
   run-kept e = here (decLt a p)
     where
-    here : Dec (a < p) → getD (paste d p s n) a 0 ≡ getD d a 0
-    here (yes k) = paste-before d p s n 0 h i a k
-    here (no k) = paste-after d p s n 0 h i a (ltb-false a (p + n) (rw (le-leb p a (omega arith)) at e))
+      here : Dec (a < p) → getD (paste d p s n) a 0 ≡ getD d a 0
+      here (yes k) = paste-before d p s n 0 h i a k
+      here (no k) = paste-after d p s n 0 h i a (ltb-false a (p + n) (rw (le-leb p a (omega arith)) at e))
 
 -- ---- a define
 
@@ -68,11 +68,11 @@ module _ (s : List ℕ) (t : Texture) (k w h place : ℕ) (rgba : List ℕ) wher
   unfolding defineStore
   define-length = here (eqb (defineCheck (length s) t k w h place (length rgba)) 0) refl
     where
-    here : (b : Bool) → eqb (defineCheck (length s) t k w h place (length rgba)) 0 ≡ b → length (defineOf s t k w h place rgba .store) ≡ length s
-    here true e =
-        let z = eqb-true (defineCheck (length s) t k w h place (length rgba)) 0 e in
-        ap (λ (o : Outcome). length (o .store)) (define-done z) ∙ length-paste s place rgba (length rgba) (room z) (le-refl (length rgba))
-    here false e = ap (λ (o : Outcome). length (o .store)) (define-refused e)
+      here : (b : Bool) → eqb (defineCheck (length s) t k w h place (length rgba)) 0 ≡ b → length (defineOf s t k w h place rgba .store) ≡ length s
+      here true e =
+          let z = eqb-true (defineCheck (length s) t k w h place (length rgba)) 0 e in
+          ap (λ (o : Outcome). length (o .store)) (define-done z) ∙ length-paste s place rgba (length rgba) (room z) (le-refl (length rgba))
+      here false e = ap (λ (o : Outcome). length (o .store)) (define-refused e)
 
   -- a byte that it writes is the image's
   pub define-inside : (a : ℕ) → defineWrites (length s) t k w h place (length rgba) a ≡ true
@@ -89,12 +89,12 @@ module _ (s : List ℕ) (t : Texture) (k w h place : ℕ) (rgba : List ℕ) wher
   unfolding defineWrites defineStore
   define-outside a e = here (eqb (defineCheck (length s) t k w h place (length rgba)) 0) refl e
     where
-    here : (b : Bool) → eqb (defineCheck (length s) t k w h place (length rgba)) 0 ≡ b → cond b (inRun place (length rgba) a) false ≡ false
-        → getD (defineOf s t k w h place rgba .store) a 0 ≡ getD s a 0
-    here true q e =
-        let z = eqb-true (defineCheck (length s) t k w h place (length rgba)) 0 q in
-        ap (λ (o : Outcome). getD (o .store) a 0) (define-done z) ∙ run-kept s place rgba (length rgba) (room z) (le-refl (length rgba)) a e
-    here false q e = ap (λ (o : Outcome). getD (o .store) a 0) (define-refused q)
+      here : (b : Bool) → eqb (defineCheck (length s) t k w h place (length rgba)) 0 ≡ b → cond b (inRun place (length rgba) a) false ≡ false
+          → getD (defineOf s t k w h place rgba .store) a 0 ≡ getD s a 0
+      here true q e =
+          let z = eqb-true (defineCheck (length s) t k w h place (length rgba)) 0 q in
+          ap (λ (o : Outcome). getD (o .store) a 0) (define-done z) ∙ run-kept s place rgba (length rgba) (room z) (le-refl (length rgba)) a e
+      here false q e = ap (λ (o : Outcome). getD (o .store) a 0) (define-refused q)
 
 -- ---- the rows of a patch
 
@@ -139,24 +139,26 @@ module _ (m : MipLevel) (x y w h : ℕ) (patch : List ℕ) (p : Placed m x y w h
   rows-alike s s' q q' a (suc r) k e =
       here (λ f. rows-alike s s' q q' a r (omega arith) f) (inRun (rowPlace m x y r) (w * 4) a) refl e
     where
-    d : List ℕ
-    d = iter r (patchRow m x y w patch) s
-    d' : List ℕ
-    d' = iter r (patchRow m x y w patch) s'
-    here : (inRows m x y w r a ≡ true → getD d a 0 ≡ getD d' a 0)
-        → (b : Bool) → inRun (rowPlace m x y r) (w * 4) a ≡ b → cond b true (inRows m x y w r a) ≡ true
-        → getD (paste d (rowPlace m x y r) (drop (r * (w * 4)) patch) (w * 4)) a 0 ≡ getD (paste d' (rowPlace m x y r) (drop (r * (w * 4)) patch) (w * 4)) a 0
-    here f true c e =
-        let l = rows-length s q r (omega arith) in
-        let l' = rows-length s' q' r (omega arith) in
-        run-written d (rowPlace m x y r) (drop (r * (w * 4)) patch) (w * 4) (omega (arith, row-room r (omega arith))) (row-bytes r (omega arith)) a c
-        ∙ sym (run-written d' (rowPlace m x y r) (drop (r * (w * 4)) patch) (w * 4) (omega (arith, row-room r (omega arith))) (row-bytes r (omega arith)) a c)
-    here f false c e =
-        let l = rows-length s q r (omega arith) in
-        let l' = rows-length s' q' r (omega arith) in
-        run-kept d (rowPlace m x y r) (drop (r * (w * 4)) patch) (w * 4) (omega (arith, row-room r (omega arith))) (row-bytes r (omega arith)) a c
-        ∙ f e
-        ∙ sym (run-kept d' (rowPlace m x y r) (drop (r * (w * 4)) patch) (w * 4) (omega (arith, row-room r (omega arith))) (row-bytes r (omega arith)) a c)
+      d : List ℕ
+      d = iter r (patchRow m x y w patch) s
+
+      d' : List ℕ
+      d' = iter r (patchRow m x y w patch) s'
+
+      here : (inRows m x y w r a ≡ true → getD d a 0 ≡ getD d' a 0)
+          → (b : Bool) → inRun (rowPlace m x y r) (w * 4) a ≡ b → cond b true (inRows m x y w r a) ≡ true
+          → getD (paste d (rowPlace m x y r) (drop (r * (w * 4)) patch) (w * 4)) a 0 ≡ getD (paste d' (rowPlace m x y r) (drop (r * (w * 4)) patch) (w * 4)) a 0
+      here f true c e =
+          let l = rows-length s q r (omega arith) in
+          let l' = rows-length s' q' r (omega arith) in
+          run-written d (rowPlace m x y r) (drop (r * (w * 4)) patch) (w * 4) (omega (arith, row-room r (omega arith))) (row-bytes r (omega arith)) a c
+          ∙ sym (run-written d' (rowPlace m x y r) (drop (r * (w * 4)) patch) (w * 4) (omega (arith, row-room r (omega arith))) (row-bytes r (omega arith)) a c)
+      here f false c e =
+          let l = rows-length s q r (omega arith) in
+          let l' = rows-length s' q' r (omega arith) in
+          run-kept d (rowPlace m x y r) (drop (r * (w * 4)) patch) (w * 4) (omega (arith, row-room r (omega arith))) (row-bytes r (omega arith)) a c
+          ∙ f e
+          ∙ sym (run-kept d' (rowPlace m x y r) (drop (r * (w * 4)) patch) (w * 4) (omega (arith, row-room r (omega arith))) (row-bytes r (omega arith)) a c)
 
 -- ---- a patch
 
@@ -183,12 +185,12 @@ module _ (t : Texture) (k x y w h : ℕ) (patch : List ℕ) where
   unfolding patchStore
   patch-length s = here (eqb (check s) 0) refl
     where
-    here : (b : Bool) → eqb (check s) 0 ≡ b → length (patchOf s t k x y w h patch .store) ≡ length s
-    here true e =
-        let z = eqb-true (check s) 0 e in
-        ap (λ (o : Patched). length (o .store)) (patch-effect s z)
-        ∙ rows-length (levelOf t k) x y w h patch (placed s z) s (level-room s z) h (le-refl h)
-    here false e = ap (λ (o : Patched). length (o .store)) (patch-none s e)
+      here : (b : Bool) → eqb (check s) 0 ≡ b → length (patchOf s t k x y w h patch .store) ≡ length s
+      here true e =
+          let z = eqb-true (check s) 0 e in
+          ap (λ (o : Patched). length (o .store)) (patch-effect s z)
+          ∙ rows-length (levelOf t k) x y w h patch (placed s z) s (level-room s z) h (le-refl h)
+      here false e = ap (λ (o : Patched). length (o .store)) (patch-none s e)
 
   -- a byte that it writes is the same whatever the store held: over two stores of one length
   pub patch-inside : (s s' : List ℕ) → length s ≡ length s' → (a : ℕ) → patchWrites (length s) t k x y w h (length patch) a ≡ true
@@ -208,10 +210,10 @@ module _ (t : Texture) (k x y w h : ℕ) (patch : List ℕ) where
   unfolding patchWrites patchStore
   patch-outside s a e = here (eqb (check s) 0) refl e
     where
-    here : (b : Bool) → eqb (check s) 0 ≡ b → cond b (inRows (levelOf t k) x y w h a) false ≡ false
-        → getD (patchOf s t k x y w h patch .store) a 0 ≡ getD s a 0
-    here true q e =
-        let z = eqb-true (check s) 0 q in
-        ap (λ (o : Patched). getD (o .store) a 0) (patch-effect s z)
-        ∙ rows-outside (levelOf t k) x y w h patch (placed s z) s (level-room s z) a h (le-refl h) e
-    here false q e = ap (λ (o : Patched). getD (o .store) a 0) (patch-none s q)
+      here : (b : Bool) → eqb (check s) 0 ≡ b → cond b (inRows (levelOf t k) x y w h a) false ≡ false
+          → getD (patchOf s t k x y w h patch .store) a 0 ≡ getD s a 0
+      here true q e =
+          let z = eqb-true (check s) 0 q in
+          ap (λ (o : Patched). getD (o .store) a 0) (patch-effect s z)
+          ∙ rows-outside (levelOf t k) x y w h patch (placed s z) s (level-room s z) a h (le-refl h) e
+      here false q e = ap (λ (o : Patched). getD (o .store) a 0) (patch-none s q)

@@ -22,4 +22,5 @@ unfolding indexOf
 returns c = (refl, index-in (c .args .width) (c .args .height) (c .args .x) (c .args .y) (c .pre .2) (c .pre .3))
 
 pub index-of-spec : {M : Type 1} → statement M
-index-of-spec = tie.close (tie.spec mul-result add-result mul-result-2 cast-result returns)
+index-of-spec = tie.close (tie.spec
+    mul-result add-result mul-result-2 cast-result returns)
