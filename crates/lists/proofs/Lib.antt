@@ -6,3 +6,5 @@ pub mod Search
 pub mod Members
 pub mod Pastes
 pub mod Paste
+pub mod Parts
+pub mod Stores
