@@ -8,3 +8,4 @@ pub mod Pastes
 pub mod Paste
 pub mod Parts
 pub mod Stores
+pub mod Cells
