@@ -1,43 +1,40 @@
+use mathlib.Core.Path.{_≡_, refl, sym, ap, _∙_}
+use Rattle.block_images.specs.Walk.{putTexel}
+use native.Mathlib.Omega.{arith}
+use native.Mathlib.Nat.{mul-le-mul}
+use lib.Arith.{digits-lt}
+use borrow.Author.Tests.{le-leb, lt-leb}
+use Rattle.lists.proofs.Choice.{yes, no}
 use borrow.Author.Needs.{needs}
 use Rattle.block_images.proofs.put_texel.Statement.{statement}
 use Rattle.block_images.proofs.put_texel.Tie as tie
-use Rattle.block_images.proofs.put_texel.Reads as reads
-use Rattle.block_images.proofs.put_texel.Lts as lts
-use Rattle.texels.proofs.put4.Reads as put4-reads
 
--- src/lib.rt:24:9
 returns : tie.Need-returns
-returns c = ?
+unfolding putTexel
+returns c = yes _ (le-leb _ _ (c .if1 .taken)) refl
 
--- src/lib.rt:27:9
 returns-2 : tie.Need-returns-2
-returns-2 c = ?
+unfolding putTexel
+returns-2 c = no _ (lt-leb _ _ (c .before .if1 .left)) (yes _ (le-leb _ _ (c .if2 .taken)) refl)
 
--- src/lib.rt:29:24
 mul-put4 : tie.Need-mul-put4
-mul-put4 c = ?
+mul-put4 c = let a = c .before .before .before .before .args in omega (arith, digits-lt (c .before .if2 .left) (c .before .before .if1 .left), mul-le-mul (c .before .before .before .before .pre .1) (c .before .before .before .before .pre .0))
 
--- src/lib.rt:29:24
 add-put4 : tie.Need-add-put4
-add-put4 c = ?
+add-put4 c = let a = c .before .before .before .before .args in omega (arith, digits-lt (c .before .if2 .left) (c .before .before .if1 .left), mul-le-mul (c .before .before .before .before .pre .1) (c .before .before .before .before .pre .0))
 
--- src/lib.rt:29:23
 mul-put4-2 : tie.Need-mul-put4-2
-mul-put4-2 c = ?
+mul-put4-2 c = let a = c .before .before .before .before .args in omega (arith, digits-lt (c .before .if2 .left) (c .before .before .if1 .left), mul-le-mul (c .before .before .before .before .pre .1) (c .before .before .before .before .pre .0))
 
--- src/lib.rt:29:5
 put4-requires : tie.Need-put4-requires
-put4-requires c κs = ?
+put4-requires c κs = let a = c .before .before .before .before .args in omega (arith, digits-lt (c .before .if2 .left) (c .before .before .if1 .left), mul-le-mul (c .before .before .before .before .pre .1) (c .before .before .before .before .pre .0))
 
--- src/lib.rt:19:1
-same-length : tie.Need-same-length
-same-length c = search needs
-
--- src/lib.rt:19:1
 returns-3 : tie.Need-returns-3
-returns-3 c = ?
+unfolding putTexel
+returns-3 c = no _ (lt-leb _ _ (c .before .before .before .before .before .if1 .left)) (no _ (lt-leb _ _ (c .before .before .before .before .if2 .left)) (c .before .before .put4 .ensures))
 
 pub put-texel-spec : {M : Type 1} → statement M
 put-texel-spec =
     tie.close
-    (tie.spec returns returns-2 mul-put4 add-put4 mul-put4-2 put4-requires same-length returns-3)
+    (tie.spec
+    returns returns-2 mul-put4 add-put4 mul-put4-2 put4-requires (λ c. search needs) returns-3)
