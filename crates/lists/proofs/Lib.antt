@@ -5,3 +5,4 @@ pub mod Turns
 pub mod Search
 pub mod Members
 pub mod Pastes
+pub mod Paste
