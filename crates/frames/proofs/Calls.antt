@@ -1,18 +1,18 @@
 -- What a kind of call owes, put together from its parts: a check in front, another call that does the same, a draw's fragments.
 -- Assumes nothing.
 use mathlib.Core.Path.{_≡_, refl, sym, ap, ap₂, _∙_, subst}
-use mathlib.Core.Logic.{_⊎_, inl, inr, _≢_}
+use mathlib.Core.Logic.{_⊎_, inl, inr}
 use mathlib.Core.Bool.{Bool, true, false, cond, true≢false}
 use mathlib.Core.List.{List, [], _∷_, map}
 use Prim.Native.Nat.{ℕ, _+_, _*_, _≤_, _<_}
 use lib.Dec.{eqb}
-use lib.ListN.{length, getD}
-use Rattle.isolation.specs.Machine.{Act, Agree, Alike, Local, Guest, In}
-use Rattle.isolation.specs.Acts.{refuse, check, Uses}
+use lib.ListN.{length}
+use Rattle.isolation.specs.Machine.{Act, Agree, Alike, Guest, In}
+use Rattle.isolation.specs.Acts.{check, Uses}
 use Rattle.isolation.proofs.Acts.{LocalOn, everywhere, check-local, as-local}
-use Rattle.frames.specs.State.{State, SameSizes, Place, sizes, pixel, byte, texture, Same, places, pixelAt, Answer, done, drew, refused, isRefused}
+use Rattle.frames.specs.State.{State, SameSizes, Place, sizes, pixel, byte, texture, Same, places, pixelAt, Answer, drew, refused, isRefused}
 use Rattle.frames.specs.Windows.{badTarget, Owed}
-use Rattle.frames.specs.Fragments.{paint, taken, Canvas, Work, shown, Fits, SameLengths, FragLocal, workOn, painted, takenBy, PaintReads, paintWrites, paints}
+use Rattle.frames.specs.Fragments.{paint, Canvas, Work, shown, FragLocal, workOn, painted, PaintReads, paintWrites, paints}
 use Rattle.frames.proofs.Fragments.{AllFit, Both, paint-lengths, paint-other, paint-both}
 
 -- on states with B the call keeps the two laws; it never writes the sizes; and it uses a pixel only with Q, and not if it is refused
@@ -129,7 +129,7 @@ module _ {Texture Item C : Type 0} (canvas : Canvas C) (names : List ℕ) (withi
       subst (λ (w : Work Item C). Both canvas (λ p. within (s .width) (s .height) p ≡ true) (painted canvas names within work s) (paint (w .step (t .store)) (w .items) (begun t)))
       (same-work s t g)
       (paint-both canvas (W s) (law s ok) (λ p. within (s .width) (s .height) p ≡ true) (s .store) (t .store) (W s .items) (begun s) (begun t)
-      (fit s ok) (boxed s ok) (λ b i. g (byte b) i) (begun-both s t g))
+      (fit s ok) (boxed s ok) (g sizes tt .same-store) (λ b i. g (byte b) i) (begun-both s t g))
 
   painted-local : LocalOn places B Painting
   painted-local = record { alike-on = alike; frame-on = frame }

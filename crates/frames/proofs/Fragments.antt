@@ -1,16 +1,14 @@
 -- A run of steps at one pixel each keeps what one step keeps: the lengths, the pixels of no step, and what becomes of a pixel and of
 -- the count hangs only on the pixels of the steps and the store bytes that they take. Assumes nothing.
-use mathlib.Core.Path.{_≡_, refl, sym, ap, _∙_, subst}
+use mathlib.Core.Path.{_≡_, refl, sym, ap, _∙_}
 use mathlib.Core.Logic.{_⊎_, inl, inr, _≢_}
 use mathlib.Core.List.{List, [], _∷_, _++_}
-use Prim.Native.Nat.{ℕ, zero, suc, _+_, _*_, _-_, _≤_, _<_}
+use Prim.Native.Nat.{ℕ, zero, suc, _+_, _-_, _≤_, _<_}
 use native.Mathlib.Decide.{ℕ-discrete}
 use native.Mathlib.Omega.{arith}
 use lib.ListN.{length, getD}
-use lib.Ieee.{Float}
 use Rattle.isolation.specs.Machine.{In}
 use Rattle.lists.specs.Lists.{turns, between}
-use Rattle.frames.specs.State.{Pixel, pixelAt}
 use Rattle.frames.specs.Fragments.{paint, taken, Canvas, Work, shown, Fits, SameLengths, FragLocal}
 
 pub in-left : {A : Type 0} (a : A) (xs ys : List A) → In a xs → In a (xs ++ ys)
@@ -67,23 +65,23 @@ module _ {Item C : Type 0} (canvas : Canvas C) (w : Work Item C) (law : FragLoca
   paint-other st (i ∷ is) c q f n =
       paint-other st is (w .step st i c) q (fits-after st i is c f) (λ j m. n j (inr m)) ∙ law .other st i c q (f i (inl refl)) (n i (inl refl))
 
-  pub paint-both : (K : ℕ → Type 0) (st su : List ℕ) (is : List Item) (c k : C) → Fit is c → ((i : Item) → In i is → K (w .at i))
+  pub paint-both : (K : ℕ → Type 0) (st su : List ℕ) (is : List Item) (c k : C) → Fit is c → ((i : Item) → In i is → K (w .at i)) → length st ≡ length su
       → ((b : ℕ) → In b (taken (w .step st) (w .took st) is c) → getD st b 0 ≡ getD su b 0)
       → Both canvas K c k → Both canvas K (paint (w .step st) is c) (paint (w .step su) is k)
   unfolding paint taken
-  paint-both K st su [] c k f m t h = h
-  paint-both K st su (i ∷ is) c k f m t h =
-      paint-both K st su is (w .step st i c) (w .step su i k) (fits-after st i is c f) (λ j x. m j (inr x)) (λ b x. t b (in-right b (w .took st i c) _ x)) after
+  paint-both K st su [] c k f m e t h = h
+  paint-both K st su (i ∷ is) c k f m e t h =
+      paint-both K st su is (w .step st i c) (w .step su i k) (fits-after st i is c f) (λ j x. m j (inr x)) e (λ b x. t b (in-right b (w .took st i c) _ x)) after
     where
       one : (shown canvas (w .step st i c) (w .at i) ≡ shown canvas (w .step su i k) (w .at i)) × (canvas .count (w .step st i c) ≡ canvas .count (w .step su i k))
-      one = law .here st su i c k (f i (inl refl)) (h .both-lengths) (h .both-shown (w .at i) (m i (inl refl))) (h .both-count)
+      one = law .here st su i c k (f i (inl refl)) (h .both-lengths) (h .both-shown (w .at i) (m i (inl refl))) (h .both-count) e
           (λ b x. t b (in-left b (w .took st i c) _ x))
 
       fits-too : Fits canvas k (w .at i)
       fits-too = let g = f i (inl refl) in let l = h .both-lengths in (rw (← l .0) (g .0), rw (← l .1) (g .1))
 
       seen : (q : ℕ) → K q → Dec (q ≡ w .at i) → shown canvas (w .step st i c) q ≡ shown canvas (w .step su i k) q
-      seen q x (yes e) = rw e (one .0)
+      seen q x (yes r) = rw r (one .0)
       seen q x (no n) = law .other st i c q (f i (inl refl)) n ∙ h .both-shown q x ∙ sym (law .other su i k q fits-too n)
 
       after : Both canvas K (w .step st i c) (w .step su i k)

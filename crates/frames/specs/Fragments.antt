@@ -54,9 +54,9 @@ module _ {C : Type 0} (canvas : Canvas C) where
     pub lengths : (st : List ℕ) (i : Item) (c : C) → SameLengths (w .step st i c) c
     -- it changes its own pixel at most
     pub other : (st : List ℕ) (i : Item) (c : C) (q : ℕ) → Fits c (w .at i) → q ≢ w .at i → shown (w .step st i c) q ≡ shown c q
-    -- what becomes of its pixel and of the count hangs on that pixel, the count, and the store bytes that it takes
+    -- what becomes of its pixel and of the count hangs on that pixel, the count, the store's length and the store bytes that it takes
     pub here : (st su : List ℕ) (i : Item) (c k : C) → Fits c (w .at i) → SameLengths c k → shown c (w .at i) ≡ shown k (w .at i)
-        → canvas .count c ≡ canvas .count k → ((b : ℕ) → In b (w .took st i c) → getD st b 0 ≡ getD su b 0)
+        → canvas .count c ≡ canvas .count k → length st ≡ length su → ((b : ℕ) → In b (w .took st i c) → getD st b 0 ≡ getD su b 0)
         → (shown (w .step st i c) (w .at i) ≡ shown (w .step su i k) (w .at i)) × (canvas .count (w .step st i c) ≡ canvas .count (w .step su i k))
 
   -- names: the textures whose records the draw is handed. within: whether a pixel of a target of such sides is in its scissor box.
