@@ -11,4 +11,6 @@ macro_rules! parts {
 parts! {
     oracle,
     floats,
+    settings,
+    target,
 }
