@@ -71,7 +71,7 @@ module _ (texel : List ℕ → ℕ → ℕ → List ℕ) (four : (s : List ℕ) 
     dropped n = record {
       size = p .size;
       texels = λ x y hx hy t. p .texels x y hx hy
-      (before x y hx hy t (decLt (turn (blocksOver w) x y) ((by * blocksOver w + bx) * 16 + i)))
+          (before x y hx hy t (decLt (turn (blocksOver w) x y) ((by * blocksOver w + bx) * 16 + i)));
     }
       where
         before : (x y : ℕ) → x < w → y < h → turn (blocksOver w) x y < (by * blocksOver w + bx) * 16 + i + 1
@@ -92,8 +92,8 @@ module _ (texel : List ℕ → ℕ → ℕ → List ℕ) (four : (s : List ℕ) 
         record {
           size = length-paste out (at * 4) c 4 fits (rw (four s ((by * blocksOver w + bx) * bytes) i) (omega arith)) ∙ p .size;
           texels = λ x y hx hy t. cell fits x y hx hy t
-          (equal (y * w + x) at (decLt (y * w + x) at) (decLt at (y * w + x)))
-          (decLt (turn (blocksOver w) x y) ((by * blocksOver w + bx) * 16 + i))
+              (equal (y * w + x) at (decLt (y * w + x) at) (decLt at (y * w + x)))
+              (decLt (turn (blocksOver w) x y) ((by * blocksOver w + bx) * 16 + i));
         }
       where
         cell : ((by * 4 + i / 4) * w + (bx * 4 + i % 4)) * 4 + 4 ≤ length out

@@ -37,7 +37,15 @@ fn texel_from(rgb: [[u8; 3]; 16], alpha: [u8; 16], i: usize) -> [u8; 4]
     [c[0], c[1], c[2], alpha[i]]
 }
 
-fn put_block(out: &mut [u8], w: usize, h: usize, bx: usize, by: usize, rgb: [[u8; 3]; 16], alpha: [u8; 16])
+fn put_block(
+    out: &mut [u8],
+    w: usize,
+    h: usize,
+    bx: usize,
+    by: usize,
+    rgb: [[u8; 3]; 16],
+    alpha: [u8; 16],
+)
     requires { ⌜ InImage w h bx by (now out) ⌝ }
     ensures { λ _. ⌜ now (out .exit) ≡ putBlock w h (texelFrom rgb alpha) bx by (now (out .entry)) ⌝ }
 {
@@ -47,7 +55,16 @@ fn put_block(out: &mut [u8], w: usize, h: usize, bx: usize, by: usize, rgb: [[u8
     }
 }
 
-fn decode_block(b: Block, s: &[u8], at: usize, out: &mut [u8], w: usize, h: usize, bx: usize, by: usize)
+fn decode_block(
+    b: Block,
+    s: &[u8],
+    at: usize,
+    out: &mut [u8],
+    w: usize,
+    h: usize,
+    bx: usize,
+    by: usize,
+)
     requires { ⌜ (at + blockBytes b ≤ length (now s)) × InImage w h bx by (now out) ⌝ }
     ensures { λ _. ⌜ now (out .exit) ≡ putBlock w h (blockTexel b (now (s .entry)) at) bx by (now (out .entry)) ⌝ }
 {

@@ -28,7 +28,11 @@ fn mix3(k: u32, n: u32, a: [u8; 3], b: [u8; 3]) -> [u8; 3]
     requires { ⌜ (0 < n) × (n ≤ 8) × (k ≤ n) ⌝ }
     ensures { λ r. ⌜ r ≡ mixed3 k n a b ⌝ }
 {
-    [mix(k, n, a[0], b[0]), mix(k, n, a[1], b[1]), mix(k, n, a[2], b[2])]
+    [
+        mix(k, n, a[0], b[0]),
+        mix(k, n, a[1], b[1]),
+        mix(k, n, a[2], b[2]),
+    ]
 }
 
 fn colour_565(c: u32) -> [u8; 3]
@@ -69,7 +73,11 @@ fn lowered(a: u8, b: u8) -> u8
 fn lowered3(a: [u8; 3], b: [u8; 3]) -> [u8; 3]
     ensures { λ r. ⌜ r ≡ lessQuarter3 a b ⌝ }
 {
-    [lowered(a[0], b[0]), lowered(a[1], b[1]), lowered(a[2], b[2])]
+    [
+        lowered(a[0], b[0]),
+        lowered(a[1], b[1]),
+        lowered(a[2], b[2]),
+    ]
 }
 
 fn atc_palette(c0: u32, c1: u32) -> [[u8; 3]; 4]
@@ -177,9 +185,27 @@ fn alpha_palette(a0: u8, a1: u8) -> [u8; 8]
     ensures { λ r. ⌜ r ≡ alphaPalette a0 a1 ⌝ }
 {
     if a0 > a1 {
-        [a0, a1, mix(1, 7, a0, a1), mix(2, 7, a0, a1), mix(3, 7, a0, a1), mix(4, 7, a0, a1), mix(5, 7, a0, a1), mix(6, 7, a0, a1)]
+        [
+            a0,
+            a1,
+            mix(1, 7, a0, a1),
+            mix(2, 7, a0, a1),
+            mix(3, 7, a0, a1),
+            mix(4, 7, a0, a1),
+            mix(5, 7, a0, a1),
+            mix(6, 7, a0, a1),
+        ]
     } else {
-        [a0, a1, mix(1, 5, a0, a1), mix(2, 5, a0, a1), mix(3, 5, a0, a1), mix(4, 5, a0, a1), 0, 255]
+        [
+            a0,
+            a1,
+            mix(1, 5, a0, a1),
+            mix(2, 5, a0, a1),
+            mix(3, 5, a0, a1),
+            mix(4, 5, a0, a1),
+            0,
+            255,
+        ]
     }
 }
 

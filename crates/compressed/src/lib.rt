@@ -158,7 +158,13 @@ fn decode_empty(out: &[u8]) -> Answer
 }
 
 // Decode compressed.
-pub fn decode_compressed_to_rgba(s: &[u8], width: u32, height: u32, format: u32, out: &mut [u8]) -> Answer
+pub fn decode_compressed_to_rgba(
+    s: &[u8],
+    width: u32,
+    height: u32,
+    format: u32,
+    out: &mut [u8],
+) -> Answer
     ensures { λ r. ⌜ (numberOf r ≡ compressedCheck (compressedOf format) width height (length (now (s .entry))) (length (now (out .entry)))) × (now (out .exit) ≡ compressedLeft (compressedOf format) width height (now (s .entry)) (now (out .entry))) ⌝ }
 {
     if 1024 < width {
@@ -173,5 +179,11 @@ pub fn decode_compressed_to_rgba(s: &[u8], width: u32, height: u32, format: u32,
     if height == 0 {
         return decode_empty(out);
     }
-    decode_known(compressed_of(format), s, width as usize, height as usize, out)
+    decode_known(
+        compressed_of(format),
+        s,
+        width as usize,
+        height as usize,
+        out,
+    )
 }

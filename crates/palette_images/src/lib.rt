@@ -47,7 +47,15 @@ fn put_entry(table: &[[u8; 4]; 256], i: usize, out: &mut [u8], at: usize)
     put4(out, at, [c[0], c[1], c[2], c[3]]);
 }
 
-fn decode_row(bits: usize, table: &[[u8; 4]; 256], s: &[u8], at: usize, out: &mut [u8], to: usize, w: usize)
+fn decode_row(
+    bits: usize,
+    table: &[[u8; 4]; 256],
+    s: &[u8],
+    at: usize,
+    out: &mut [u8],
+    to: usize,
+    w: usize,
+)
     requires { ⌜ (8 / bits * bits ≡ 8) × (w ≤ 1024) × (at + rowBytes bits w ≤ length (now s)) × (to + w * 4 ≤ length (now out)) ⌝ }
     ensures { λ _. ⌜ now (out .exit) ≡ paste (now (out .entry)) to (flat w (entryAt bits (now (table .entry)) (now (s .entry)) at)) (w * 4) ⌝ }
 {
@@ -57,7 +65,15 @@ fn decode_row(bits: usize, table: &[[u8; 4]; 256], s: &[u8], at: usize, out: &mu
     }
 }
 
-fn decode_rows(bits: usize, table: &[[u8; 4]; 256], s: &[u8], start: usize, out: &mut [u8], w: usize, h: usize)
+fn decode_rows(
+    bits: usize,
+    table: &[[u8; 4]; 256],
+    s: &[u8],
+    start: usize,
+    out: &mut [u8],
+    w: usize,
+    h: usize,
+)
     requires { ⌜ (8 / bits * bits ≡ 8) × (w ≤ 1024) × (h ≤ 1024) × (start + h * rowBytes bits w ≤ length (now s)) × (length (now out) ≡ h * (w * 4)) ⌝ }
     ensures { λ _. ⌜ now (out .exit) ≡ image w h (λ x y. entryAt bits (now (table .entry)) (now (s .entry)) (start + y * rowBytes bits w) x) ⌝ }
 {

@@ -46,9 +46,10 @@ mul-decode-block-2 c = let a = c .before .before .before .before .before .before
 
 decode-block-requires : tie.Need-decode-block-requires Inv-loop μ-loop
 decode-block-requires c κs = let a = c .before .before .before .before .before .before .before .args in
-    let in-row : c .before .before .loop .bx < blocksOver (a .w) = omega arith in
-    (rw (c .before .before .before .before .block-count .ensures, c .before .before .before .block-bytes .ensures) (omega (arith, c .before .before .before .before .before .before .before .pre .0, block-in (a .by) (c .before .before .loop .bx) (blocksOver (a .w)) (blockBytes (a .b)) in-row)),
-      record { wide = c .before .before .before .before .before .before .before .pre .1 .wide; high = c .before .before .before .before .before .before .before .pre .1 .high; col = omega (arith, c .before .before .before .before .before .before .before .pre .1 .wide); row = c .before .before .before .before .before .before .before .pre .1 .row; size = c .before .before .loop .inv .1 ∙ c .before .before .before .before .before .before .before .pre .1 .size })
+    let in-row : c .before .before .loop .bx < blocksOver (a .w) = omega arith in (
+      rw (c .before .before .before .before .block-count .ensures, c .before .before .before .block-bytes .ensures) (omega (arith, c .before .before .before .before .before .before .before .pre .0, block-in (a .by) (c .before .before .loop .bx) (blocksOver (a .w)) (blockBytes (a .b)) in-row)),
+      record { wide = c .before .before .before .before .before .before .before .pre .1 .wide; high = c .before .before .before .before .before .before .before .pre .1 .high; col = omega (arith, c .before .before .before .before .before .before .before .pre .1 .wide); row = c .before .before .before .before .before .before .before .pre .1 .row; size = c .before .before .loop .inv .1 ∙ c .before .before .before .before .before .before .before .pre .1 .size },
+    )
 
 loop-again : tie.Need-loop-again Inv-loop μ-loop
 loop-again c = (search needs, c .before .before .decode-block .kept .1 .1 .1 .0 ∙ c .before .before .before .before .before .loop .inv .1, rw (← iter-more, ← c .before .before .before .before .before .loop .inv .2) (c .before .before .decode-block .ensures))

@@ -28,9 +28,10 @@ loop-holds c = (search needs, refl, iter-none _ _)
 
 decode-row-requires : tie.Need-decode-row-requires Inv-loop μ-loop
 decode-row-requires c κs = let a = c .before .before .before .before .before .before .args in
-    let in-image : c .before .before .loop .by < blocksOver (a .h) = omega arith in
-    (omega (arith, c .before .before .before .before .before .before .pre .0, row-of-blocks-in (c .before .before .loop .by) (blocksOver (a .h)) (blocksOver (a .w)) (blockBytes (a .b)) in-image),
-      record { wide = c .before .before .before .before .before .before .pre .1 .wide; high = c .before .before .before .before .before .before .pre .1 .high; col = omega arith; row = omega (arith, c .before .before .before .before .before .before .pre .1 .high); size = c .before .before .loop .inv .1 ∙ c .before .before .before .before .before .before .pre .1 .size })
+    let in-image : c .before .before .loop .by < blocksOver (a .h) = omega arith in (
+      omega (arith, c .before .before .before .before .before .before .pre .0, row-of-blocks-in (c .before .before .loop .by) (blocksOver (a .h)) (blocksOver (a .w)) (blockBytes (a .b)) in-image),
+      record { wide = c .before .before .before .before .before .before .pre .1 .wide; high = c .before .before .before .before .before .before .pre .1 .high; col = omega arith; row = omega (arith, c .before .before .before .before .before .before .pre .1 .high); size = c .before .before .loop .inv .1 ∙ c .before .before .before .before .before .before .pre .1 .size },
+    )
 
 loop-again : tie.Need-loop-again Inv-loop μ-loop
 loop-again c = (search needs, c .before .before .decode-row .kept .1 .1 .0 ∙ c .before .before .before .before .before .loop .inv .1, rw (← iter-more, ← c .before .before .before .before .before .loop .inv .2) (c .before .before .decode-row .ensures))

@@ -68,9 +68,10 @@ same-length-3 c = search needs
 -- src/lib.rt:161:1
 returns-5 : tie.Need-returns-5
 returns-5 c = let a = c .before .before .before .before .before .before .before .before .before .before .before .args in
-    let z = no-zero (a .width) (a .height) (c .before .before .before .before .before .before .if3 .left) (c .before .before .before .before .before .if4 .left) in
-    (c .before .before .decode-known .ensures .0 ∙ rw (c .before .before .before .before .compressed-of .ensures) (known-check (compressedOf (a .format)) (a .width) (a .height) (length (a .s .now)) (length (a .out .now)) (none-above (a .width) (a .height) (c .before .before .before .before .before .before .before .before .if1 .left) (c .before .before .before .before .before .before .before .if2 .left)) z),
-      c .before .before .decode-known .ensures .1 ∙ rw (c .before .before .before .before .compressed-of .ensures) (known-left (compressedOf (a .format)) (a .width) (a .height) (a .s .now) (a .out .now) (none-above (a .width) (a .height) (c .before .before .before .before .before .before .before .before .if1 .left) (c .before .before .before .before .before .before .before .if2 .left)) z))
+    let z = no-zero (a .width) (a .height) (c .before .before .before .before .before .before .if3 .left) (c .before .before .before .before .before .if4 .left) in (
+      c .before .before .decode-known .ensures .0 ∙ rw (c .before .before .before .before .compressed-of .ensures) (known-check (compressedOf (a .format)) (a .width) (a .height) (length (a .s .now)) (length (a .out .now)) (none-above (a .width) (a .height) (c .before .before .before .before .before .before .before .before .if1 .left) (c .before .before .before .before .before .before .before .if2 .left)) z),
+      c .before .before .decode-known .ensures .1 ∙ rw (c .before .before .before .before .compressed-of .ensures) (known-left (compressedOf (a .format)) (a .width) (a .height) (a .s .now) (a .out .now) (none-above (a .width) (a .height) (c .before .before .before .before .before .before .before .before .if1 .left) (c .before .before .before .before .before .before .before .if2 .left)) z),
+    )
 
 pub decode-compressed-to-rgba-spec : {M : Type 1} → statement M
 decode-compressed-to-rgba-spec =

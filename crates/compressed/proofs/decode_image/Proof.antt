@@ -20,9 +20,10 @@ enum-known-f c = search needs
 -- src/lib.rt:126:34
 decode-blocks-requires : tie.Need-decode-blocks-requires
 unfolding sizeOf
-decode-blocks-requires c κs = let a = c .before .before .before .before .before .before .args in
-    (subst (λ (g : Compressed). sizeOf g (a .w) (a .h) ≤ length (a .s .now)) (c .before .before .f .given .1) (c .before .before .before .before .before .before .pre .3),
-      record { wide = c .before .before .before .before .before .before .pre .1; high = c .before .before .before .before .before .before .pre .2; col = omega arith; row = omega arith; size = c .before .before .before .before .before .before .pre .4 })
+decode-blocks-requires c κs = let a = c .before .before .before .before .before .before .args in (
+  subst (λ (g : Compressed). sizeOf g (a .w) (a .h) ≤ length (a .s .now)) (c .before .before .f .given .1) (c .before .before .before .before .before .before .pre .3),
+  record { wide = c .before .before .before .before .before .before .pre .1; high = c .before .before .before .before .before .before .pre .2; col = omega arith; row = omega arith; size = c .before .before .before .before .before .before .pre .4 },
+)
 
 -- src/lib.rt:127:30
 enum-known-f-2 : tie.Need-enum-known-f-2

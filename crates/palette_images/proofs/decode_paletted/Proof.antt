@@ -21,7 +21,7 @@ decode-rows-requires : tie.Need-decode-rows-requires
 decode-rows-requires c κs = let a = c .before .before .before .before .before .before .args in let e = shifted (a .bits) 18446744073709551616 (width-le (a .bits) (c .before .before .before .before .before .before .pre .0)) (omega arith) in (c .before .before .before .before .before .before .pre .0, c .before .before .before .before .before .before .pre .1, c .before .before .before .before .before .before .pre .2, rw (e, c .before .texel-bytes .ensures) (c .before .before .before .before .before .before .pre .3), c .before .before .before .before .before .before .pre .4 ∙ mul-assoc (a .h) (a .w) 4)
 
 returns : tie.Need-returns
-returns c = let a = c .before .before .before .before .before .before .before .before .before .args in let e = shifted (a .bits) 18446744073709551616 (width-le (a .bits) (c .before .before .before .before .before .before .before .before .before .pre .0)) (omega arith) in 
+returns c = let a = c .before .before .before .before .before .before .before .before .before .args in let e = shifted (a .bits) 18446744073709551616 (width-le (a .bits) (c .before .before .before .before .before .before .before .before .before .pre .0)) (omega arith) in
     let entries : Entries (a .t) (a .s .now) (2 ^ a .bits) (c .before .before .before .before .before .before .palette-of .result) = subst (λ (n : ℕ). Entries (a .t) (a .s .now) n (c .before .before .before .before .before .before .palette-of .result)) e (c .before .before .before .before .before .before .palette-of .ensures) in
     c .before .before .decode-rows .ensures ∙ rw (e, c .before .before .before .before .texel-bytes .ensures) (table-image (a .bits) (c .before .before .before .before .before .before .before .before .before .pre .0) (a .t) (a .w) (a .h) (a .s .now) (c .before .before .before .before .before .before .palette-of .result) entries)
 

@@ -41,10 +41,12 @@ put-entry-requires c κs = (c .before .index-in .ensures .1, omega arith)
 loop-again : tie.Need-loop-again Inv-loop μ-loop
 unfolding entryAt indexAt
 loop-again c = let a = c .before .before .before .before .before .before .before .before .before .before .args in
-    let f = entryAt (a .bits) (a .table .now) (a .s .now) (a .at) in
-    (search needs, c .before .before .put-entry .kept .1 .1 .0 ∙ c .before .before .before .before .before .before .before .loop .inv .1,
+    let f = entryAt (a .bits) (a .table .now) (a .s .now) (a .at) in (
+      search needs,
+      c .before .before .put-entry .kept .1 .1 .0 ∙ c .before .before .before .before .before .before .before .loop .inv .1,
       rw (c .before .before .put-entry .ensures, c .before .before .before .before .before .before .before .loop .inv .2, c .before .before .before .before .index-in .ensures .0)
-      (row-more 4 f (entry-four (a .bits) (a .table .now) (a .s .now) (a .at)) (a .out .now) (a .to) (c .before .before .before .before .before .before .before .loop .x) (omega arith)))
+          (row-more 4 f (entry-four (a .bits) (a .table .now) (a .s .now) (a .at)) (a .out .now) (a .to) (c .before .before .before .before .before .before .before .loop .x) (omega arith)),
+    )
 
 returns : tie.Need-returns Inv-loop μ-loop
 returns c = let e : c .before .loop .x ≡ c .before .before .before .before .args .w = omega arith in c .before .loop .inv .2 ∙ rw e

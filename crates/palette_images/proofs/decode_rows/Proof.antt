@@ -45,9 +45,11 @@ decode-row-requires c κs = let a = c .before .before .before .before .before .b
     (c .before .before .before .before .before .before .pre .0, c .before .before .before .before .before .before .pre .1, omega arith, omega arith)
 
 loop-again : tie.Need-loop-again Inv-loop μ-loop
-loop-again c = let a = c .before .before .before .before .before .before .before .before .before .args in
-    (search needs, c .before .before .decode-row .kept .1 .1 .1 .1 .0 ∙ c .before .before .before .before .before .loop .inv .1,
-      rw (c .before .before .decode-row .ensures, c .before .before .before .before .before .loop .inv .2) (flat-more (a .w * 4) (λ j. flat (a .w) (entryAt (a .bits) (a .table .now) (a .s .now) (a .start + j * c .before .before .before .before .before .before .row-bytes .result))) (λ j. length-flat 4 (entryAt (a .bits) (a .table .now) (a .s .now) (a .start + j * c .before .before .before .before .before .before .row-bytes .result)) (entry-four (a .bits) (a .table .now) (a .s .now) (a .start + j * c .before .before .before .before .before .before .row-bytes .result)) (a .w)) (c .before .before .before .before .before .loop .y) (a .out .now)))
+loop-again c = let a = c .before .before .before .before .before .before .before .before .before .args in (
+  search needs,
+  c .before .before .decode-row .kept .1 .1 .1 .1 .0 ∙ c .before .before .before .before .before .loop .inv .1,
+  rw (c .before .before .decode-row .ensures, c .before .before .before .before .before .loop .inv .2) (flat-more (a .w * 4) (λ j. flat (a .w) (entryAt (a .bits) (a .table .now) (a .s .now) (a .start + j * c .before .before .before .before .before .before .row-bytes .result))) (λ j. length-flat 4 (entryAt (a .bits) (a .table .now) (a .s .now) (a .start + j * c .before .before .before .before .before .before .row-bytes .result)) (entry-four (a .bits) (a .table .now) (a .s .now) (a .start + j * c .before .before .before .before .before .before .row-bytes .result)) (a .w)) (c .before .before .before .before .before .loop .y) (a .out .now)),
+)
 
 returns : tie.Need-returns Inv-loop μ-loop
 unfolding image
