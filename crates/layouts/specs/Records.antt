@@ -35,7 +35,7 @@ readLevel b i =
       present = not (eqb (word b (i * 20)) 0);
       place = long b (i * 20 + 12);
       width = word b (i * 20 + 4);
-      height = word b (i * 20 + 8)
+      height = word b (i * 20 + 8);
     }
 
 -- whether a code has a value, and its value
@@ -77,7 +77,7 @@ readTexture b =
       «min_filter» = minOr (minFilterOf (word b 228));
       «mag_filter» = magOr (filterOf (word b 232));
       «wrap_s» = wrapOr (wrapOf (word b 236));
-      «wrap_t» = wrapOr (wrapOf (word b 240))
+      «wrap_t» = wrapOr (wrapOf (word b 240));
     }
 
 -- a layout of another length, or with a code that has no value, is no record

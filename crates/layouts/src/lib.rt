@@ -262,10 +262,14 @@ fn rest_bytes(texture: Texture) -> [u8; 24]
     ensures { λ r. ⌜ r ≡ restBytes texture ⌝ }
 {
     let top = texture.max_mipmap_level as u64;
-    let min_filter = min_filter_code(texture.min_filter);
-    let mag_filter = filter_code(texture.mag_filter);
-    let wrap_s = wrap_code(texture.wrap_s);
-    let wrap_t = wrap_code(texture.wrap_t);
+    let minify = texture.min_filter;
+    let magnify = texture.mag_filter;
+    let along_s = texture.wrap_s;
+    let along_t = texture.wrap_t;
+    let min_filter = min_filter_code(minify);
+    let mag_filter = filter_code(magnify);
+    let wrap_s = wrap_code(along_s);
+    let wrap_t = wrap_code(along_t);
     [
         low_byte(top),
         low_byte(top / 256),
@@ -299,7 +303,8 @@ fn put_levels(b: &mut [u8], levels: [MipLevel; 11])
     ensures { λ _. ⌜ now (b .exit) ≡ flat 11 (levelBytesAt levels) ++ drop 220 (now (b .entry)) ⌝ }
 {
     for i in 0..11 {
-        let bytes = level_bytes(levels[i]);
+        let m = levels[i];
+        let bytes = level_bytes(m);
         texture::copy_in(b, i * 20, &bytes);
     }
 }
@@ -308,7 +313,8 @@ pub fn write_record(b: &mut [u8], texture: Texture)
     requires { ⌜ length (now b) ≡ 244 ⌝ }
     ensures { λ _. ⌜ now (b .exit) ≡ recordBytes texture ⌝ }
 {
-    put_levels(b, texture.levels);
+    let levels = texture.levels;
+    put_levels(b, levels);
     let rest = rest_bytes(texture);
     texture::copy_in(b, 220, &rest);
 }
