@@ -1,1 +1,1 @@
-// The worked cases of document 01 that are proved: one list and one proof, in specs/Cases.antt.
+// Worked cases of document 01, proved: specs/Cases.antt has the list, proofs/Worked.antt its proof.
