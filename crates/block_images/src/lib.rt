@@ -4,7 +4,7 @@ ghost use mathlib.Core.Path.{_≡_};
 ghost use Prim.Native.Nat.{_+_, _*_, _/_, _%_, _≤_, _<_};
 ghost use lib.ListN.{length};
 ghost use Rattle.lists.specs.Lists.{iter};
-ghost use Rattle.blocks.specs.Blocks.{blockBytes, texelFrom, blockTexel};
+ghost use Rattle.blocks.specs.Blocks.{blockBytes, texelOf, texelFrom, blockTexel};
 ghost use Rattle.block_images.specs.Walk.{blocksOver, blockImage, putTexel, putNth, putBlock, putRow, putRows, InImage};
 
 // The blocks that cover a side.
@@ -29,12 +29,34 @@ fn put_texel(out: &mut [u8], w: usize, h: usize, x: usize, y: usize, c: [u8; 4])
     texels::put4(out, (y * w + x) * 4, c);
 }
 
-fn texel_from(rgb: [[u8; 3]; 16], alpha: [u8; 16], i: usize) -> [u8; 4]
-    requires { ⌜ i < 16 ⌝ }
-    ensures { λ r. ⌜ r ≡ texelFrom rgb alpha i ⌝ }
+fn texel_of(c: [u8; 3], alpha: u8) -> [u8; 4]
+    ensures { λ r. ⌜ r ≡ texelOf c alpha ⌝ }
 {
-    let c = rgb[i];
-    [c[0], c[1], c[2], alpha[i]]
+    [c[0], c[1], c[2], alpha]
+}
+
+// A block of which some texels may hang over.
+fn put_edge_block(out: &mut [u8], w: usize, h: usize, bx: usize, by: usize, rgb: [[u8; 3]; 16], alpha: [u8; 16])
+    requires { ⌜ InImage w h bx by (now out) ⌝ }
+    ensures { λ _. ⌜ now (out .exit) ≡ putBlock w h (texelFrom rgb alpha) bx by (now (out .entry)) ⌝ }
+{
+    for i in 0..16 {
+        let colour = rgb[i];
+        let c = texel_of(colour, alpha[i]);
+        put_texel(out, w, h, bx * 4 + i % 4, by * 4 + i / 4, c);
+    }
+}
+
+// A block within the image.
+fn put_whole_block(out: &mut [u8], w: usize, h: usize, bx: usize, by: usize, rgb: [[u8; 3]; 16], alpha: [u8; 16])
+    requires { ⌜ (bx * 4 + 4 ≤ w) × (by * 4 + 4 ≤ h) × InImage w h bx by (now out) ⌝ }
+    ensures { λ _. ⌜ now (out .exit) ≡ putBlock w h (texelFrom rgb alpha) bx by (now (out .entry)) ⌝ }
+{
+    for i in 0..16 {
+        let colour = rgb[i];
+        let c = texel_of(colour, alpha[i]);
+        texels::put4(out, ((by * 4 + i / 4) * w + (bx * 4 + i % 4)) * 4, c);
+    }
 }
 
 fn put_block(
@@ -49,10 +71,13 @@ fn put_block(
     requires { ⌜ InImage w h bx by (now out) ⌝ }
     ensures { λ _. ⌜ now (out .exit) ≡ putBlock w h (texelFrom rgb alpha) bx by (now (out .entry)) ⌝ }
 {
-    for i in 0..16 {
-        let c = texel_from(rgb, alpha, i);
-        put_texel(out, w, h, bx * 4 + i % 4, by * 4 + i / 4, c);
+    if bx * 4 + 4 <= w {
+        if by * 4 + 4 <= h {
+            put_whole_block(out, w, h, bx, by, rgb, alpha);
+            return;
+        }
     }
+    put_edge_block(out, w, h, bx, by, rgb, alpha);
 }
 
 fn decode_block(
@@ -94,16 +119,9 @@ fn decode_rows(b: Block, s: &[u8], out: &mut [u8], w: usize, h: usize)
     }
 }
 
-// One walk for each kind of block, so that the compiler sees which it is.
 pub fn decode_blocks(b: Block, s: &[u8], out: &mut [u8], w: usize, h: usize)
     requires { ⌜ (blocksOver h * blocksOver w * blockBytes b ≤ length (now s)) × InImage w h 0 0 (now out) ⌝ }
     ensures { λ _. ⌜ now (out .exit) ≡ blockImage (blockTexel b) (blockBytes b) w h (now (s .entry)) ⌝ }
 {
-    match b {
-        Block::Dxt1Rgb => decode_rows(Block::Dxt1Rgb, s, out, w, h),
-        Block::Dxt1Rgba => decode_rows(Block::Dxt1Rgba, s, out, w, h),
-        Block::AtcRgb => decode_rows(Block::AtcRgb, s, out, w, h),
-        Block::AtcExplicit => decode_rows(Block::AtcExplicit, s, out, w, h),
-        Block::AtcInterpolated => decode_rows(Block::AtcInterpolated, s, out, w, h),
-    }
+    decode_rows(b, s, out, w, h);
 }

@@ -1,5 +1,5 @@
 -- Blocks of four by four texels: the colours and the alphas of a block whose bytes stand in s from `at` on, row by row.
-use mathlib.Core.Bool.{cond}
+use mathlib.Core.Bool.{Bool, true, false, cond}
 use mathlib.Core.List.{List, [], _∷_, _++_}
 use Prim.Native.Nat.{ℕ, _+_, _-_, _*_, _/_, _%_, _^_, _<_}
 use lib.Dec.{eqb, ltb}
@@ -140,12 +140,22 @@ blockBytes AtcExplicit = 16
 blockBytes AtcInterpolated = 16
 
 -- texture.rs, decode_compressed_to_rgba: a block of sixteen bytes has its alphas first
+abbrev pub alphaBytes : Block → ℕ
+alphaBytes Dxt1Rgb = 0
+alphaBytes Dxt1Rgba = 0
+alphaBytes AtcRgb = 0
+alphaBytes AtcExplicit = 8
+alphaBytes AtcInterpolated = 8
+
+abbrev pub isDxt1 : Block → Bool
+isDxt1 Dxt1Rgb = true
+isDxt1 Dxt1Rgba = true
+isDxt1 AtcRgb = false
+isDxt1 AtcExplicit = false
+isDxt1 AtcInterpolated = false
+
 abbrev pub blockRgb : Block → List ℕ → ℕ → List (List ℕ)
-blockRgb Dxt1Rgb s at = dxt1 s at
-blockRgb Dxt1Rgba s at = dxt1 s at
-blockRgb AtcRgb s at = atc s at
-blockRgb AtcExplicit s at = atc s (at + 8)
-blockRgb AtcInterpolated s at = atc s (at + 8)
+blockRgb b s at = cond (isDxt1 b) (dxt1 s (at + alphaBytes b)) (atc s (at + alphaBytes b))
 
 -- texture.rs, decode_compressed_to_rgba: both DXT1 codes have the same alphas
 abbrev pub blockAlpha : Block → List ℕ → ℕ → List ℕ
@@ -155,10 +165,12 @@ blockAlpha AtcRgb s at = opaque
 blockAlpha AtcExplicit s at = explicitAlpha s at
 blockAlpha AtcInterpolated s at = interpolatedAlpha s at
 
--- the i-th texel of a block: its colour, then its alpha
+-- a texel of a block: its colour, then its alpha
+abbrev pub texelOf : List ℕ → ℕ → List ℕ
+texelOf c alpha = getD c 0 0 ∷ getD c 1 0 ∷ getD c 2 0 ∷ alpha ∷ []
+
 abbrev pub texelFrom : List (List ℕ) → List ℕ → ℕ → List ℕ
-texelFrom rgb alpha i =
-    getD (getD rgb i []) 0 0 ∷ getD (getD rgb i []) 1 0 ∷ getD (getD rgb i []) 2 0 ∷ getD alpha i 0 ∷ []
+texelFrom rgb alpha i = texelOf (getD rgb i []) (getD alpha i 0)
 
 unfoldable pub blockTexel : Block → List ℕ → ℕ → ℕ → List ℕ
 blockTexel b s at i = texelFrom (blockRgb b s at) (blockAlpha b s at) i

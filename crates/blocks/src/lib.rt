@@ -5,7 +5,7 @@ ghost use Prim.Native.Nat.{_+_, _-_, _*_, _/_, _%_, _^_, _≤_, _<_};
 ghost use lib.ListN.{length, getD};
 ghost use Rattle.texels.specs.Texels.{half};
 ghost use Rattle.lists.specs.Lists.{tab};
-ghost use Rattle.blocks.specs.Blocks.{mixed, mixed3, rgb565, rgb555, dxt1Palette, lessQuarter, lessQuarter3, ThreeBits, atcPalette, selector, word, sixBytes, chosen, dxt1, atc, dxt1AlphaOf, dxt1Alpha, explicitAlpha, alphaPalette, alphaSelectors, interpolatedAlpha, opaque, blockBytes, blockRgb, blockAlpha};
+ghost use Rattle.blocks.specs.Blocks.{mixed, mixed3, rgb565, rgb555, dxt1Palette, lessQuarter, lessQuarter3, ThreeBits, atcPalette, selector, word, sixBytes, chosen, dxt1, atc, dxt1AlphaOf, dxt1Alpha, explicitAlpha, alphaPalette, alphaSelectors, interpolatedAlpha, opaque, blockBytes, isDxt1, alphaBytes, blockRgb, blockAlpha};
 
 // The formats whose images are made of blocks.
 pub enum Block {
@@ -273,17 +273,41 @@ pub fn block_bytes(b: Block) -> usize
     }
 }
 
+fn is_dxt1(b: Block) -> bool
+    ensures { λ r. ⌜ r ≡ isDxt1 b ⌝ }
+{
+    match b {
+        Block::Dxt1Rgb => true,
+        Block::Dxt1Rgba => true,
+        Block::AtcRgb => false,
+        Block::AtcExplicit => false,
+        Block::AtcInterpolated => false,
+    }
+}
+
+// The bytes of a block before its colours.
+fn alpha_bytes(b: Block) -> usize
+    ensures { λ r. ⌜ (r ≡ alphaBytes b) × (r + 8 ≡ blockBytes b) ⌝ }
+{
+    match b {
+        Block::Dxt1Rgb => 0,
+        Block::Dxt1Rgba => 0,
+        Block::AtcRgb => 0,
+        Block::AtcExplicit => 8,
+        Block::AtcInterpolated => 8,
+    }
+}
+
+// Each colour decoder is called in one place, so that the compiler lays it into the walk.
 pub fn block_rgb(b: Block, s: &[u8], at: usize) -> [[u8; 3]; 16]
     requires { ⌜ at + blockBytes b ≤ length (now s) ⌝ }
     ensures { λ r. ⌜ r ≡ blockRgb b (now (s .entry)) at ⌝ }
 {
-    match b {
-        Block::Dxt1Rgb => dxt1_rgb_block(s, at),
-        Block::Dxt1Rgba => dxt1_rgb_block(s, at),
-        Block::AtcRgb => atc_rgb_block(s, at),
-        Block::AtcExplicit => atc_rgb_block(s, at + 8),
-        Block::AtcInterpolated => atc_rgb_block(s, at + 8),
+    let from = at + alpha_bytes(b);
+    if is_dxt1(b) {
+        return dxt1_rgb_block(s, from);
     }
+    atc_rgb_block(s, from)
 }
 
 // The alphas of a block, by its format.

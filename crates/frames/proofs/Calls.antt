@@ -3,7 +3,7 @@
 use mathlib.Core.Path.{_≡_, refl, sym, ap, ap₂, _∙_, subst}
 use mathlib.Core.Logic.{_⊎_, inl, inr}
 use mathlib.Core.Bool.{Bool, true, false, cond, true≢false}
-use mathlib.Core.List.{List, [], _∷_, map}
+use mathlib.Core.List.{List}
 use Prim.Native.Nat.{ℕ, _+_, _*_, _≤_, _<_}
 use lib.Dec.{eqb}
 use lib.ListN.{length}
@@ -75,12 +75,10 @@ module _ {Texture Call : Type 0} (act : Call → Act (State Texture) Answer Plac
 
 -- ---- a draw past its checks
 
-map-same : {A : Type 0} (f g : ℕ → A) (ns : List ℕ) → ((n : ℕ) → In n ns → f n ≡ g n) → map f ns ≡ map g ns
-map-same f g [] h = refl
-map-same f g (n ∷ ns) h = ap₂ (λ x y. x ∷ y) (h n (inl refl)) (map-same f g ns (λ m i. h m (inr i)))
-
--- on states with B: the law of its fragments, each in the scissor box, and the pixels of the box on the target
-module _ {Texture Item C : Type 0} (canvas : Canvas C) (names : List ℕ) (within : ℕ → ℕ → ℕ → Bool) (work : ℕ → ℕ → List Texture → Work Item C)
+-- its work hangs on the named records alone; on states with B its fragments have their law, each lies in the scissor box, and the
+-- pixels of the box are on the target
+module _ {Texture Item C : Type 0} (canvas : Canvas C) (names : List ℕ) (within : ℕ → ℕ → ℕ → Bool) (work : ℕ → ℕ → (ℕ → Texture) → Work Item C)
+    (named : (w h : ℕ) (f g : ℕ → Texture) → ((n : ℕ) → In n names → f n ≡ g n) → work w h f ≡ work w h g)
     (B : State Texture → Type 0)
     (law : (s : State Texture) → B s → FragLocal canvas (workOn canvas names within work s))
     (boxed : (s : State Texture) → B s → (i : Item) → In i (workOn canvas names within work s .items) → within (s .width) (s .height) (workOn canvas names within work s .at i) ≡ true)
@@ -120,8 +118,7 @@ module _ {Texture Item C : Type 0} (canvas : Canvas C) (names : List ℕ) (withi
   same-work : (s t : State Texture) → ((l : Place) → PaintReads canvas names within work s l → Same l s t) → W s ≡ W t
   same-work s t g =
       let z : SameSizes s t = g sizes tt in
-      let r : map (s .textures) names ≡ map (t .textures) names = map-same (s .textures) (t .textures) names (λ n i. g (texture n) i) in
-      rw (z .same-width, z .same-height, r)
+      named (s .width) (s .height) (s .textures) (t .textures) (λ n i. g (texture n) i) ∙ rw (z .same-width, z .same-height)
 
   painted-both : (s t : State Texture) → B s → ((l : Place) → PaintReads canvas names within work s l → Same l s t)
       → Both canvas (λ p. within (s .width) (s .height) p ≡ true) (painted canvas names within work s) (painted canvas names within work t)

@@ -126,3 +126,28 @@ in-spread f k (suc n) i P h x = go (in-either i (f k) (spread f (k + 1) n) x) (i
     go : In i (f k) ⊎ In i (spread f (k + 1) n) → (((j : ℕ) → k + 1 ≤ j → j < k + 1 + n → In i (f j) → P) → In i (spread f (k + 1) n) → P) → P
     go (inl y) r = h k (omega arith) (omega arith) y
     go (inr y) r = r (λ j a b z. h j (omega arith) (omega arith) z) y
+
+-- ---- a loop over rows, with a loop over columns in it
+
+-- the items of the columns x0 to x1 and the rows y0 to y1, row by row
+unfoldable pub grid : {Item : Type 0} → (ℕ → ℕ → Item) → ℕ → ℕ → ℕ → ℕ → List Item
+grid f x0 x1 y0 y1 = spread (λ y. spread (λ x. f x y ∷ []) x0 (x1 - x0)) y0 (y1 - y0)
+
+pub grid-paint : {Item Canvas : Type 0} (step : Item → Canvas → Canvas) (f : ℕ → ℕ → Item) (x0 x1 y0 y1 : ℕ) (c : Canvas)
+    → between (λ y. between (λ x. step (f x y)) x0 x1) y0 y1 c ≡ paint step (grid f x0 x1 y0 y1) c
+unfolding grid paint
+grid-paint step f x0 x1 y0 y1 c =
+    between-paint step (λ y. spread (λ x. f x y ∷ []) x0 (x1 - x0)) (λ y. between (λ x. step (f x y)) x0 x1)
+    (λ y d. between-paint step (λ x. f x y ∷ []) (λ x. step (f x y)) (λ x e. refl) x0 x1 d) y0 y1 c
+
+-- an item of the grid has its column and its row there
+pub in-grid : {Item : Type 0} (f : ℕ → ℕ → Item) (x0 x1 y0 y1 : ℕ) (i : Item) (P : Type 0)
+    → ((x y : ℕ) → x0 ≤ x → x < x1 → y0 ≤ y → y < y1 → i ≡ f x y → P) → In i (grid f x0 x1 y0 y1) → P
+unfolding grid
+in-grid {Item} f x0 x1 y0 y1 i P h m =
+    in-spread (λ y. spread (λ x. f x y ∷ []) x0 (x1 - x0)) y0 (y1 - y0) i P
+    (λ y a b k. in-spread (λ x. f x y ∷ []) x0 (x1 - x0) i P (λ x a' b' k'. h x y (omega arith) (omega arith) (omega arith) (omega arith) (alone x y k')) k) m
+  where
+    alone : (x y : ℕ) → In i (f x y ∷ []) → i ≡ f x y
+    alone x y (inl e) = e
+    alone x y (inr z) = absurd z

@@ -125,7 +125,7 @@ module _ {Item : Type 0} (items : List Item) (at : Item → ℕ) (frag : List �
           × (fragWork items at frag .step st i d .count ≡ putPixel e (at i) o .count)) one
           (put-same d e (at i) _ f l h c)
 
-bytes-same : (st su l : List ℕ) → ((b : ℕ) → In b l → getD st b 0 ≡ getD su b 0) → map (λ b. getD st b 0) l ≡ map (λ b. getD su b 0) l
+pub bytes-same : (st su l : List ℕ) → ((b : ℕ) → In b l → getD st b 0 ≡ getD su b 0) → map (λ b. getD st b 0) l ≡ map (λ b. getD su b 0) l
 bytes-same st su [] h = refl
 bytes-same st su (a ∷ l) h = ap₂ (λ x y. x ∷ y) (h a (inl refl)) (bytes-same st su l (λ b i. h b (inr i)))
 

@@ -1,19 +1,20 @@
 -- A draw in parts owes what every call owes: its fragments' law and their box are all that is left to show of a draw. Assumes nothing.
-use mathlib.Core.Path.{_≡_, refl, ap, _∙_, subst}
+use mathlib.Core.Path.{_≡_, refl, sym, ap, _∙_, subst}
 use mathlib.Core.Logic.{inl, inr}
 use mathlib.Core.Bool.{Bool, true, false, cond, not, _&&_}
 use Prim.Native.Nat.{ℕ, _+_, _*_, _/_, _%_, _≤_, _<_}
 use native.Mathlib.Nat.{mul-le-mul-right, suc-mul, mul-comm, mod-add-div'}
 use native.Mathlib.Omega.{arith}
+use lib.Arith.{digits-div, digits-mod}
 use lib.Dec.{eqb, ltb}
 use lib.ListN.{length}
 use borrow.Author.Tests.{ltb-true}
 use Rattle.settings.specs.declared.Scissor.{Scissor}
 use Rattle.settings.specs.declared.Scissor.the-variants.{Whole, Within}
 use Rattle.settings.specs.declared.ScissorBox.{ScissorBox}
-use Rattle.scissor.specs.Scissor.{inBox, pixelIn}
+use Rattle.scissor.specs.Scissor.{inBox, pixelIn, boundsOf, inBounds}
 use Rattle.scissor.specs.Check.{targetFits}
-use Rattle.scissor.proofs.Boxes.{split}
+use Rattle.scissor.proofs.Boxes.{split, bounds-are}
 use Rattle.scissor.proofs.Outcome.{target-is}
 use Rattle.isolation.specs.Machine.{Act, Guest, In}
 use Rattle.isolation.specs.Acts.{check}
@@ -45,6 +46,18 @@ room width height colors depths b p t e =
     let q = target-is width height colors depths t in
     (omega (arith, q .2), omega (arith, q .3))
 
+-- a column and a row in the cut box make a pixel in the box
+in-box-wide : (width height : ℕ) (b : Scissor) (x y : ℕ) → inBox width height b x y ≡ true → x < width
+unfolding inBox
+in-box-wide width height Whole x y e = ltb-true x width (split (ltb x width) (ltb y height) e .0)
+in-box-wide width height (Within b) x y e = ltb-true x width (split (ltb x width) (ltb y height) (split (ltb x width && ltb y height) _ e .0) .0)
+
+pub pixel-in : (width height : ℕ) (b : Scissor) (x y : ℕ) → inBounds (boundsOf width height b) x y ≡ true → pixelIn width height b (y * width + x) ≡ true
+pixel-in width height b x y e =
+    let q : inBox width height b x y ≡ true = sym (bounds-are width height b x y) ∙ e in
+    let k : x < width = in-box-wide width height b x y q in
+    rw (digits-mod y k, digits-div y k) q
+
 module _ {Item C : Type 0} (d : Draws Item C) (laws : DrawLaws d) where
   -- what 8 and 5 look at
   abbrev Looks : Place → Type 0
@@ -70,7 +83,7 @@ module _ {Item C : Type 0} (d : Draws Item C) (laws : DrawLaws d) where
       (record { laws = base .laws; keeps = base .keeps; stays = λ s p o u. (base .stays s p o u .0, good s p o (base .stays s p o u .1)) }))
     where
       base : KeptOn On (λ s p. inScissor d (s .width) (s .height) p ≡ true) (painting d)
-      base = paints-kept (d .canvas) (d .names) (inScissor d) (d .work) On
+      base = paints-kept (d .canvas) (d .names) (inScissor d) (d .work) (laws .work-same) On
           (λ s o. laws .fragments s (o .0 .1, o .1)) (λ s o. laws .boxed s (o .0 .1, o .1))
           (λ s o p e. room (s .width) (s .height) (length (s .colors)) (length (s .depths)) (d .scissor) p (laws .early-fits s (o .0 .1)) e)
 

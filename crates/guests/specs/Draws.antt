@@ -22,7 +22,7 @@ pub record Draws (Item C : Type 0) : Type 0 where
   pub names : List ℕ
   pub scissor : Scissor
   pub canvas : Canvas C
-  pub work : ℕ → ℕ → List Texture → Work Item C
+  pub work : ℕ → ℕ → (ℕ → Texture) → Work Item C
 
 module _ {Item C : Type 0} (d : Draws Item C) where
   abbrev pub inScissor : ℕ → ℕ → ℕ → Bool
@@ -65,7 +65,9 @@ module _ {Item C : Type 0} (d : Draws Item C) where
     pub early-fits : (s : Shared) → eqb (d .early s) 0 ≡ true → targetFits (s .width) (s .height) (length (s .colors)) (length (s .depths)) ≡ true
     -- 8 and 5 look at the named records too
     pub late-same : (s t : Shared) → SameSizes s t → ((n : ℕ) → In n (d .names) → s .textures n ≡ t .textures n) → d .late s ≡ d .late t
-    -- its fragments have the law of a fragment
+    -- its fragments hang on the named records alone
+    pub work-same : (w h : ℕ) (f g : ℕ → Texture) → ((n : ℕ) → In n (d .names) → f n ≡ g n) → d .work w h f ≡ d .work w h g
+    -- they have the law of a fragment
     pub fragments : (s : Shared) → Passes s → FragLocal (d .canvas) (workOn (d .canvas) (d .names) inScissor (d .work) s)
     -- and lie in its scissor box
     pub boxed : (s : Shared) → Passes s → (i : Item) → In i (workOn (d .canvas) (d .names) inScissor (d .work) s .items)

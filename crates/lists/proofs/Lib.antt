@@ -8,3 +8,4 @@ pub mod Paste
 pub mod Parts
 pub mod Stores
 pub mod Cells
+pub mod Flats

@@ -7,8 +7,14 @@ ghost use Rattle.settings.specs.Compare.{testOf};
 ghost use Rattle.settings.specs.Factor.{resolveOf};
 ghost use Rattle.fragment.specs.Fragment.{envOf, linearFogOf, fogMixOf, blendOf, maskedOf};
 ghost use Rattle.probes.specs.Settings.{compareOr, compareOf, factorOr, factorOf, environmentOf, colorOf, channelsOf};
-use settings::{BlendFactor, CompareFunc, PipelineState, ReadCompare, ReadFactor, Rgba};
-use settings::{TexEnvMode, TextureStage};
+use settings::BlendFactor;
+use settings::CompareFunc;
+use settings::PipelineState;
+use settings::ReadCompare;
+use settings::ReadFactor;
+use settings::Rgba;
+use settings::TexEnvMode;
+use settings::TextureStage;
 
 fn compare_or_never(read: ReadCompare) -> CompareFunc
     ensures { λ r. ⌜ r ≡ compareOr read ⌝ }

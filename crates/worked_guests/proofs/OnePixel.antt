@@ -43,6 +43,7 @@ laws d = record {
   early-same = λ s t z. rw (z .same-width, z .same-height, z .same-colors, z .same-depths);
   early-fits = λ s e. unfold clearColorCheck in fits-of (targetFits (s .width) (s .height) (length (s .colors)) (length (s .depths))) _ e;
   late-same = λ s t z h. rw (z .same-store, h (d .name) (inl refl));
+  work-same = λ w k f g h. rw (h (d .name) (inl refl));
   fragments = λ s p. gather-local _ _ _ _ _;
   boxed = λ s p i m. go (s .width) (s .height) i (pixelIn (s .width) (s .height) (d .box) 0) refl m;
 }

@@ -10,8 +10,7 @@ use lib.Ieee.{Float, binary32}
 use Rattle.settings.specs.declared.Scissor.{Scissor}
 use Rattle.settings.specs.declared.Scissor.the-variants.{Within}
 use Rattle.scissor.specs.Scissor.{pixelIn}
-use Rattle.levels.specs.declared.Texture.{Texture}
-use Rattle.levels.specs.Levels.{newTexture, levelOf, validOf}
+use Rattle.levels.specs.Levels.{levelOf, validOf}
 use Rattle.isolation.specs.Machine.{Act, Guest, Turn}
 use Rattle.frames.specs.State.{Place, Answer}
 use Rattle.frames.specs.Gather.{Drawn, drawn, fragWork, gather}
@@ -26,10 +25,6 @@ pub record OnePixel : Type 0 where
   pub name : ℕ
   pub depth : Float
 
-abbrev pub first : List Texture → Texture
-first [] = newTexture
-first (t ∷ ts) = t
-
 -- the target's first pixel, if it is in the box
 abbrev pub pixels : Scissor → ℕ → ℕ → List ℕ
 pixels b w h = cond (pixelIn w h b 0) (0 ∷ []) []
@@ -41,8 +36,8 @@ parts d = record {
   names = d .name ∷ [];
   scissor = d .box;
   canvas = drawn;
-  work = λ w h ts. fragWork (pixels (d .box) w h) (λ p. p)
-      (gather (λ p x. Ieee.lt (d .depth) (x .depth)) (λ p x. levelOf (first ts) 0 .place ∷ [])
+  work = λ w h textures. fragWork (pixels (d .box) w h) (λ p. p)
+      (gather (λ p x. Ieee.lt (d .depth) (x .depth)) (λ p x. levelOf (textures (d .name)) 0 .place ∷ [])
       (λ p x bytes. some (record { red = getD bytes 0 0; green = x .green; blue = x .blue; alpha = x .alpha; depth = d .depth })));
 }
 

@@ -1,44 +1,51 @@
-use mathlib.Core.Path.{_≡_, refl, sym, ap, _∙_}
-use Rattle.blocks.specs.Blocks.{blockBytes}
-use native.Mathlib.Omega.{arith}
+use mathlib.Core.Path.{sym, _∙_}
+use Rattle.lists.proofs.Choice.{yes, no}
 use borrow.Author.Needs.{needs}
 use Rattle.blocks.proofs.block_rgb.Statement.{statement}
 use Rattle.blocks.proofs.block_rgb.Tie as tie
+use Rattle.blocks.proofs.block_rgb.Reads as reads
+use Rattle.blocks.proofs.block_rgb.Lts as lts
+use Rattle.blocks.proofs.alpha_bytes.Reads as alpha-bytes-reads
+use Rattle.blocks.proofs.atc_rgb_block.Reads as atc-rgb-block-reads
+use Rattle.blocks.proofs.dxt1_rgb_block.Reads as dxt1-rgb-block-reads
+use Rattle.blocks.proofs.is_dxt1.Reads as is-dxt1-reads
 
+-- src/lib.rt:280:21
+alpha-bytes-requires : tie.Need-alpha-bytes-requires
+alpha-bytes-requires c κs = search needs
+
+-- src/lib.rt:280:16
+add-from : tie.Need-add-from
+add-from c = search needs
+
+-- src/lib.rt:281:8
+is-dxt1-requires : tie.Need-is-dxt1-requires
+is-dxt1-requires c κs = search needs
+
+-- src/lib.rt:282:9
 dxt1-rgb-block-requires : tie.Need-dxt1-rgb-block-requires
-dxt1-rgb-block-requires c κs = omega (arith, ap blockBytes (c .enum-told .given .1))
+dxt1-rgb-block-requires c κs = search needs
 
-dxt1-rgb-block-requires-2 : tie.Need-dxt1-rgb-block-requires-2
-dxt1-rgb-block-requires-2 c κs = omega (arith, ap blockBytes (c .enum-told2 .given .1))
-
-atc-rgb-block-requires : tie.Need-atc-rgb-block-requires
-atc-rgb-block-requires c κs = omega (arith, ap blockBytes (c .enum-told3 .given .1))
-
-atc-rgb-block-requires-2 : tie.Need-atc-rgb-block-requires-2
-atc-rgb-block-requires-2 c κs = omega (arith, ap blockBytes (c .enum-told4 .given .1))
-
-atc-rgb-block-requires-3 : tie.Need-atc-rgb-block-requires-3
-atc-rgb-block-requires-3 c κs = omega (arith, ap blockBytes (c .enum-told5 .given .1))
-
+-- src/lib.rt:282:9
 returns : tie.Need-returns
-returns c = rw (c .before .enum-told .given .1) (c .dxt1-rgb-block .ensures)
+returns c = yes _ (sym (c .before .before .is-dxt1 .ensures) ∙ c .before .if1 .taken) (c .dxt1-rgb-block .ensures ∙ rw (c .before .before .before .alpha-bytes .ensures .0))
 
+-- src/lib.rt:284:5
+atc-rgb-block-requires : tie.Need-atc-rgb-block-requires
+atc-rgb-block-requires c κs = search needs
+
+-- src/lib.rt:276:1
 returns-2 : tie.Need-returns-2
-returns-2 c = rw (c .before .enum-told2 .given .1) (c .dxt1-rgb-block2 .ensures)
-
-returns-3 : tie.Need-returns-3
-returns-3 c = rw (c .before .enum-told3 .given .1) (c .atc-rgb-block .ensures)
-
-returns-4 : tie.Need-returns-4
-returns-4 c = rw (c .before .enum-told4 .given .1) (c .atc-rgb-block2 .ensures)
-
-returns-5 : tie.Need-returns-5
-returns-5 c = rw (c .before .enum-told5 .given .1) (c .atc-rgb-block3 .ensures)
+returns-2 c = no _ (sym (c .before .before .is-dxt1 .ensures) ∙ c .before .if1 .left) (c .atc-rgb-block .ensures ∙ rw (c .before .before .before .alpha-bytes .ensures .0))
 
 pub block-rgb-spec : {M : Type 1} → statement M
 block-rgb-spec =
     tie.close
     (tie.spec
-    (λ c. search needs) dxt1-rgb-block-requires (λ c. search needs) dxt1-rgb-block-requires-2 (λ c. search needs)
-    atc-rgb-block-requires (λ c. search needs) (λ c. search needs) atc-rgb-block-requires-2 (λ c. search needs)
-    (λ c. search needs) atc-rgb-block-requires-3 returns returns-2 returns-3 returns-4 returns-5)
+    alpha-bytes-requires
+    add-from
+    is-dxt1-requires
+    dxt1-rgb-block-requires
+    returns
+    atc-rgb-block-requires
+    returns-2)

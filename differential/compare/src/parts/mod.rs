@@ -11,4 +11,7 @@ macro_rules! parts {
 parts! {
     oracle,
     floats,
+    settings,
+    target,
+    sampling,
 }
