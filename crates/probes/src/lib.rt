@@ -1,2 +1,3 @@
 // Internal functions of the port, exported for the comparisons of differential/ and bench/ alone. No part of the product.
+mod probe_clip;
 mod probe_floats;
