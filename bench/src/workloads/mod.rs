@@ -14,4 +14,6 @@ macro_rules! groups {
 
 groups! {
     floats,
+    target,
+    sampling,
 }

@@ -1,7 +1,7 @@
 -- The whole part of a t from 0 up to 2 ^ w, by the sum t + 2 ^ 23: it is a whole number, whose last digits are the sum's last bits.
 -- Less 2 ^ 23 it is the whole part or one more, and it is one more exactly if it lies above t. Assumes nothing.
 use Prim.Native.Nat.{ℕ, suc, _+_, _-_, _*_, _/_, _%_, _^_, _≤_, _<_, min}
-use mathlib.Core.Path.{_≡_, sym, ap, subst, _∙_}
+use mathlib.Core.Path.{_≡_, refl, sym, ap, subst, _∙_}
 use mathlib.Core.Bool.{Bool, true, false, cond, not}
 use mathlib.Core.Logic.{_⊎_, inl, inr}
 use lib.Dec.{T, lit≤, ltb}
@@ -90,7 +90,7 @@ fast w E m e h =
     let S : Summed m e n = summed m e (omega arith) in
     let r = add binary32 (fin false m e) big in
     let k = n - 2 ^ 23 in
-    let k-value : HasValue (sub binary32 r big) false k 1 = subst (λ (v : Float). HasValue v false k 1) (sym (less 23 r n (S .value) (S .low))) (round-whole binary32 false k (omega (arith, S .high))) in
+    let k-value : HasValue (sub binary32 r big) false k 1 = subst (λ (v : Float). HasValue v false k 1) (sym (less r big n (2 ^ 23) (S .value) (refl, refl) (S .low))) (round-whole binary32 false k (omega (arith, S .high))) in
     let l = lt (fin false m e) (sub binary32 r big) in
     let l-is : l ≡ ltb (m * up e) (k * down e) = above-is m e k (sub binary32 r big) k-value in
     let down-to : n ≡ 2 ^ 23 + q → l ≡ false = λ g.

@@ -17,7 +17,8 @@ use Rattle.floats.specs.Num.{zero32, ofNat32}
 use Rattle.lists.proofs.Choice.{true-false}
 use Rattle.levels.specs.declared.Wrap.{Wrap}
 use Rattle.levels.specs.declared.Wrap.the-variants.{Repeat, ClampToEdge}
-use Rattle.coords.specs.Coords.{edgeCoord, wrapCoord, firstOf, secondOf}
+use Rattle.coords.specs.declared.Axis.{Axis}
+use Rattle.coords.specs.Coords.{edgeCoord, wrapCoord, firstOf, secondOf, axisOf}
 use Rattle.coords.proofs.Wraps.{rem-below, wrap-below}
 
 -- a side is a whole f32
@@ -67,3 +68,11 @@ module _ (size : ℕ) (some : 0 < size) (few : size ≤ 1024) where
   pub second-below : (w : Wrap) (v : Float) → secondOf w v size < size
   unfolding secondOf
   second-below w v = wrap-below w _ size some
+
+  -- as a caller has them
+  pub index-below : (w : Wrap) (v : Float) (x : ℕ) → x ≡ wrapCoord w v size → x < size
+  index-below w v x e = subst (λ (z : ℕ). z < size) (sym e) (coord-below w v)
+
+  pub axis-below : (w : Wrap) (v : Float) (x : Axis) → x ≡ axisOf w v size → (x .first < size) × (x .second < size)
+  unfolding axisOf
+  axis-below w v x e = subst (λ (z : Axis). (z .first < size) × (z .second < size)) (sym e) (first-below w v, second-below w v)

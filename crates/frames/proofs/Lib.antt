@@ -3,3 +3,4 @@ pub mod Fragments
 pub mod Gather
 pub mod Calls
 pub mod Windows
+pub mod Bills

@@ -1,2 +1,3 @@
 pub mod Alone
 pub mod Acts
+pub mod Bills

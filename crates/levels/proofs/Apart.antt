@@ -12,6 +12,7 @@ use lib.ListN.{length, getD, drop, drop-of-length-le}
 use lib.Seq.{drop-cons}
 use Rattle.lists.specs.Lists.{any}
 use Rattle.lists.proofs.Choice.{was-true, was-false, true-false}
+use Rattle.lists.proofs.Members.{any-getD, getD-any}
 use Rattle.levels.specs.declared.MipLevel.{MipLevel}
 use Rattle.levels.specs.Levels.{absent, sizeOf, complete, overlap, overlaps, apart, startsAt, endOf, ascending}
 
@@ -119,3 +120,56 @@ ascending-apart [] end e = refl
 ascending-apart (a ∷ l) end e =
     let s = was-true (startsAt end a) e false-true in
     rw (before-all a (endOf end a) l (λ x. omega (arith, end-complete end a x)) (s .1)) (ascending-apart l (endOf end a) (s .1))
+
+-- ---- apart, by pairs
+
+overlaps-absent : (m : MipLevel) → overlaps m absent ≡ false
+unfolding overlaps
+overlaps-absent m = idle (m .present)
+
+pub apart-at : (l : List MipLevel) → apart l ≡ true → (i j : ℕ) → i < j → overlaps (getD l i absent) (getD l j absent) ≡ false
+unfolding apart
+apart-at [] e i j h = overlaps-absent absent
+apart-at (m ∷ l) e i zero h = absurd (omega arith)
+apart-at (m ∷ l) e zero (suc j) h =
+    any-getD (overlaps m) absent l (was-false (any (overlaps m) l) e false-true .0) (overlaps-absent m) j
+apart-at (m ∷ l) e (suc i) (suc j) h = apart-at l (was-false (any (overlaps m) l) e false-true .1) i j (omega arith)
+
+pub apart-make : (l : List MipLevel) → ((i j : ℕ) → i < j → overlaps (getD l i absent) (getD l j absent) ≡ false) → apart l ≡ true
+unfolding apart
+apart-make [] h = refl
+apart-make (m ∷ l) h =
+    rw (getD-any (overlaps m) absent l (λ i k. h 0 (suc i) (omega arith))) (apart-make l (λ i j k. h (suc i) (suc j) (omega arith)))
+
+-- a level among those that overlap nothing
+pub overlaps-none : (m : MipLevel) (l : List MipLevel) → any (overlaps m) l ≡ false → (i : ℕ) → overlaps m (getD l i absent) ≡ false
+overlaps-none m l e i = any-getD (overlaps m) absent l e (overlaps-absent m) i
+
+pub overlaps-gone : (m : MipLevel) → (overlaps m absent ≡ false) × (overlaps absent m ≡ false)
+unfolding overlaps
+overlaps-gone m = (overlaps-absent m, refl)
+
+turned : (p q r s : Bool) → cond p false (cond q false (cond r s false)) ≡ cond q false (cond p false (cond s r false))
+turned true true r s = refl
+turned true false r s = refl
+turned false true r s = refl
+turned false false true true = refl
+turned false false true false = refl
+turned false false false true = refl
+turned false false false false = refl
+
+overlap-sym : (a n b m : ℕ) → overlap a n b m ≡ overlap b m a n
+unfolding overlap
+overlap-sym a n b m = turned (eqb n 0) (eqb m 0) (ltb b (a + n)) (ltb a (b + m))
+
+swapped : (p q r s : Bool) → r ≡ s → cond p (cond q r false) false ≡ cond q (cond p s false) false
+swapped true true r s e = e
+swapped true false r s e = refl
+swapped false true r s e = refl
+swapped false false r s e = refl
+
+pub overlaps-sym : (a b : MipLevel) → overlaps a b ≡ overlaps b a
+unfolding overlaps
+overlaps-sym a b =
+    swapped (a .present) (b .present) (overlap (a .place) (sizeOf a) (b .place) (sizeOf b)) (overlap (b .place) (sizeOf b) (a .place) (sizeOf a))
+    (overlap-sym (a .place) (sizeOf a) (b .place) (sizeOf b))

@@ -20,8 +20,7 @@ absent = record { present = false; place = 0; width = 0; height = 0 }
 
 -- 01, Patch: level 0 is never absent, whatever its flag says
 unfoldable pub levelsOf : List MipLevel → List MipLevel
-levelsOf [] = []
-levelsOf (m ∷ ms) = levelAt (m .place) (m .width) (m .height) ∷ ms
+levelsOf l = levelAt (getD l 0 absent .place) (getD l 0 absent .width) (getD l 0 absent .height) ∷ drop 1 l
 
 -- texture.rs, image_level: level k of a texture
 unfoldable pub levelOf : Texture → ℕ → MipLevel

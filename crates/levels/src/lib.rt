@@ -95,7 +95,7 @@ pub fn image_level(levels: [MipLevel; 11], k: usize) -> MipLevel
     kept[k]
 }
 
-fn size_of(m: MipLevel) -> usize
+pub fn size_of(m: MipLevel) -> usize
     requires { ⌜ (m .width ≤ 1024) × (m .height ≤ 1024) ⌝ }
     ensures { λ r. ⌜ r ≡ sizeOf m ⌝ }
 {
@@ -183,7 +183,7 @@ pub fn calculate_max_complete_mipmap_level(levels: [MipLevel; 11]) -> usize
     top
 }
 
-fn does_fit(m: MipLevel, len: usize) -> bool
+pub fn does_fit(m: MipLevel, len: usize) -> bool
     ensures { λ r. ⌜ r ≡ fits len m ⌝ }
 {
     if !m.present {
@@ -205,7 +205,7 @@ fn does_fit(m: MipLevel, len: usize) -> bool
     true
 }
 
-pub fn all_fit(levels: [MipLevel; 11], len: usize) -> bool
+fn all_fit(levels: [MipLevel; 11], len: usize) -> bool
     ensures { λ r. ⌜ r ≡ all (fits len) levels ⌝ }
 {
     for i in 0..11 {
@@ -234,7 +234,7 @@ fn do_overlap(a: usize, n: usize, b: usize, m: usize, len: usize) -> bool
     false
 }
 
-pub fn levels_overlap(a: MipLevel, b: MipLevel, len: usize) -> bool
+fn levels_overlap(a: MipLevel, b: MipLevel, len: usize) -> bool
     requires { ⌜ (fits len a ≡ true) × (fits len b ≡ true) ⌝ }
     ensures { λ r. ⌜ r ≡ overlaps a b ⌝ }
 {

@@ -57,7 +57,7 @@ module _ (width height top : ℕ) (min : MinFilter) (mag : Filter) (p : Coordina
 -- ---- the chosen levels are levels of the chain
 next-in : (n top : ℕ) (b : Bool) (f : Filter) → n ≤ 256 * top → eqb (n % 256) 0 ≡ b → Within top (cond b (One (n / 256) f) (Two (n / 256) f (n % 256)))
 next-in n top true f h e = omega arith
-next-in n top false f h e = omega (arith, eqb-false (n % 256) 0 e)
+next-in n top false f h e = (omega (arith, eqb-false (n % 256) 0 e), omega arith)
 
 minified-within : (m : Mipmap) (f : Filter) (n top : ℕ) → n ≤ 256 * top → Within top (minified m f n)
 unfolding minified between

@@ -1,5 +1,5 @@
 -- Which levels a sample reads, and by which filter: from the record's filters and top level, level 0's sides and the gradients.
-use Prim.Native.Nat.{ℕ, _+_, _≤_}
+use Prim.Native.Nat.{ℕ, _+_, _≤_, _<_}
 use mathlib.Core.Bool.{Bool, true, false, cond}
 use lib.Dec.{eqb}
 use lib.Ieee as Ieee
@@ -62,7 +62,7 @@ unfoldable pub chosenOf : ℕ → ℕ → ℕ → MinFilter → Filter → Coord
 chosenOf width height top min mag p =
     cond (aboveOne (qAt width height p)) (minified (mipmapFilter min) (texelFilter min) (cutOf (qAt width height p) top)) (One 0 mag)
 
--- the levels are among 0 to top
+-- the levels are among 0 to top, and a part is less than the whole
 abbrev pub Within : ℕ → Chosen → Type 0
 Within top (One k f) = k ≤ top
-Within top (Two k f part) = k + 1 ≤ top
+Within top (Two k f part) = (k + 1 ≤ top) × (part < 256)

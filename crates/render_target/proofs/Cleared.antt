@@ -5,9 +5,9 @@ use mathlib.Core.Bool.{Bool, true, false, cond, _&&_, _||_, or-false}
 use mathlib.Core.List.{List}
 use native.Mathlib.Omega.{arith}
 use native.Mathlib.Decide.{decLt}
-use native.Mathlib.Nat.{div-add-mod', div-lt-iff-lt-mul, le-div-iff-mul-le}
+use native.Mathlib.Nat.{le-refl, mul-zero, mod-lt, div-add-mod', div-lt-iff-lt-mul, le-div-iff-mul-le}
 use lib.Arith.{digits-div, digits-mod}
-use lib.Dec.{leb, ltb}
+use lib.Dec.{leb, ltb, leb·zero}
 use lib.ListN.{length, getD}
 use borrow.Author.Tests.{leb-true, ltb-true, le-leb, lt-ltb, lt-leb, le-ltb}
 use Rattle.lists.specs.Lists.{tab, turns, between}
@@ -81,10 +81,37 @@ module _ {A : Type 0} (k : ℕ) (v : ℕ → A) (z : A) (w x0 x1 : ℕ) (hk : 0 
       ∙ ap (λ (g : A). cond (span x0 x1 (i / k % w) && span (y + 1) (y + 1 + n) (i / k / w)) (v i) g) (step-at y l i h)
       ∙ join (span x0 x1 (i / k % w)) _ _ _ (v i) (getD l i z) (join-at y n (i / k / w) (decLt (i / k / w) (y + 1)))
 
+  -- what stands at each place after the rows y0 to y1
+  rows-place : (y0 y1 : ℕ) (l : List A) (i : ℕ) → y0 ≤ y1 → i < length l → getD (rowsOf k v z w x0 y0 x1 y1 l) i z ≡ cond (span x0 x1 (i / k % w) && span y0 y1 (i / k / w)) (v i) (getD l i z)
+  unfolding rowsOf between
+  rows-place y0 y1 l i hy j =
+      let n : y0 + (y1 - y0) ≡ y1 = omega arith in
+      turns-at (y1 - y0) y0 l i j ∙ rw n
+
   turns-long : (n y : ℕ) (l : List A) → length (turns step y n l) ≡ length l
   unfolding turns
   turns-long zero y l = refl
   turns-long (suc n) y l = turns-long n (y + 1) (step y l) ∙ length-span v z l ((y * w + x0) * k) ((y * w + x1) * k)
+
+  rows-long : (y0 y1 : ℕ) (l : List A) → length (rowsOf k v z w x0 y0 x1 y1 l) ≡ length l
+  unfolding rowsOf between
+  rows-long y0 y1 l = turns-long (y1 - y0) y0 l
+
+-- whole rows: one run of elements
+in-whole : (w y0 y1 p : ℕ) → (span 0 w (p % w) && span y0 y1 (p / w)) ≡ span (y0 * w) (y1 * w) p
+in-whole zero y0 y1 p =
+    let e = mul-zero y0 in
+    let f = mul-zero y1 in
+    rw (e, f, le-ltb (p % 0) 0 (omega arith), le-ltb p 0 (omega arith), leb·zero (p % 0), leb·zero p)
+in-whole (suc w) y0 y1 p =
+    rw (leb·zero (p % suc w), lt-ltb (p % suc w) (suc w) (mod-lt p (omega arith))) (sym (in-cells (suc w) y0 y1 p (omega arith)))
+
+pub whole-rows : {A : Type 0} (k : ℕ) (v : ℕ → A) (z : A) (w y0 y1 : ℕ) (l : List A) → 0 < k → y0 ≤ y1
+    → spanOf v z (y0 * w * k) (y1 * w * k) l ≡ rowsOf k v z w 0 y0 w y1 l
+unfolding spanOf
+whole-rows k v z w y0 y1 l hk hy =
+    table-is _ z l _ (rows-long k v z w 0 w hk (le-refl w) y0 y1 l)
+    (λ i j. sym (rows-place k v z w 0 w hk (le-refl w) y0 y1 l i hy j ∙ rw (in-whole w y0 y1 (i / k), ← in-cells k (y0 * w) (y1 * w) i hk)))
 
 -- what a clear leaves, place by place
 module _ {A : Type 0} (k : ℕ) (u : ℕ → A) (z : A) (w h : ℕ) (s : Scissor) (l : List A) where
@@ -109,15 +136,8 @@ module _ {A : Type 0} (k : ℕ) (u : ℕ → A) (z : A) (w h : ℕ) (s : Scissor
     in-box-at p = ap (λ (b : Bounds). inBounds b (p % w) (p / w)) e ∙ bounds-are w h s (p % w) (p / w)
 
     rows-at : (i : ℕ) → i < length l → cond (pixelIn w h s (i / k)) (u (i % k)) (getD l i z) ≡ getD (rowsOf k (λ i. u (i % k)) z w x0 y0 x1 y1 l) i z
-    unfolding rowsOf between
-    rows-at i j =
-        let n : y0 + (y1 - y0) ≡ y1 = omega arith in
-        sym (turns-at k (λ i. u (i % k)) z w x0 x1 hk hx (y1 - y0) y0 l i j ∙ rw (n, in-box-at (i / k)))
-
-    rows-long : length (rowsOf k (λ i. u (i % k)) z w x0 y0 x1 y1 l) ≡ length l
-    unfolding rowsOf between
-    rows-long = turns-long k (λ i. u (i % k)) z w x0 x1 hk hx (y1 - y0) y0 l
+    rows-at i j = sym (rows-place k (λ i. u (i % k)) z w x0 x1 hk hx y0 y1 l i hy j ∙ rw (in-box-at (i / k)))
 
     pub rows-clear : rowsOf k (λ i. u (i % k)) z w x0 y0 x1 y1 l ≡ clearedOf k u z w h s l
     unfolding clearedOf
-    rows-clear = sym (table-is _ z l _ rows-long rows-at)
+    rows-clear = sym (table-is _ z l _ (rows-long k (λ i. u (i % k)) z w x0 x1 hk hx y0 y1 l) rows-at)

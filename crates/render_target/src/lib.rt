@@ -38,6 +38,26 @@ fn clear_depth_rows(
     }
 }
 
+// The box's rows, at once where they are whole rows of the target.
+fn clear_depth_area(
+    depths: &mut [f32],
+    width: usize,
+    x0: usize,
+    y0: usize,
+    x1: usize,
+    y1: usize,
+    value: f32,
+)
+    requires { ⌜ (x0 ≤ x1) × (x1 ≤ width) × (y0 ≤ y1) × (y1 * width ≤ length (now depths)) ⌝ }
+    ensures { λ _. ⌜ now (depths .exit) ≡ rowsOf 1 (λ i. value) nan width x0 y0 x1 y1 (now (depths .entry)) ⌝ }
+{
+    if x1 - x0 == width {
+        fill_depths(depths, y0 * width, y1 * width, value);
+        return;
+    }
+    clear_depth_rows(depths, width, x0, y0, x1, y1, value);
+}
+
 fn clear_depth_box(depths: &mut [f32], width: u32, height: u32, value: f32, scissor: Scissor)
     requires { ⌜ length (now depths) ≡ width * height ⌝ }
     ensures { λ _. ⌜ now (depths .exit) ≡ clearedOf 1 (λ c. value) nan width height scissor (now (depths .entry)) ⌝ }
@@ -45,7 +65,7 @@ fn clear_depth_box(depths: &mut [f32], width: u32, height: u32, value: f32, scis
     let Bounds::Box { x0, y0, x1, y1 } = scissor::scissor_bounds(width, height, scissor) else {
         return;
     };
-    clear_depth_rows(
+    clear_depth_area(
         depths,
         width as usize,
         x0 as usize,
@@ -87,6 +107,26 @@ fn clear_color_rows(
     }
 }
 
+// The box's rows, at once where they are whole rows of the target.
+fn clear_color_area(
+    colors: &mut [u8],
+    width: usize,
+    x0: usize,
+    y0: usize,
+    x1: usize,
+    y1: usize,
+    rgba: [u8; 4],
+)
+    requires { ⌜ (x0 ≤ x1) × (x1 ≤ width) × (y0 ≤ y1) × (y1 * width * 4 ≤ length (now colors)) ⌝ }
+    ensures { λ _. ⌜ now (colors .exit) ≡ rowsOf 4 (colorAt rgba) 0 width x0 y0 x1 y1 (now (colors .entry)) ⌝ }
+{
+    if x1 - x0 == width {
+        fill_colors(colors, y0 * width, y1 * width, rgba);
+        return;
+    }
+    clear_color_rows(colors, width, x0, y0, x1, y1, rgba);
+}
+
 fn clear_color_box(colors: &mut [u8], width: u32, height: u32, rgba: [u8; 4], scissor: Scissor)
     requires { ⌜ length (now colors) ≡ 4 * (width * height) ⌝ }
     ensures { λ _. ⌜ now (colors .exit) ≡ clearedOf 4 (λ c. getD rgba c 0) 0 width height scissor (now (colors .entry)) ⌝ }
@@ -94,7 +134,7 @@ fn clear_color_box(colors: &mut [u8], width: u32, height: u32, rgba: [u8; 4], sc
     let Bounds::Box { x0, y0, x1, y1 } = scissor::scissor_bounds(width, height, scissor) else {
         return;
     };
-    clear_color_rows(
+    clear_color_area(
         colors,
         width as usize,
         x0 as usize,

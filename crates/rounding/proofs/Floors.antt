@@ -3,13 +3,13 @@ use Prim.Native.Nat.{ℕ, suc, _+_, _-_, _*_, _/_, _^_, _≤_, _<_}
 use mathlib.Core.Path.{_≡_, refl, sym, ap, subst, _∙_}
 use mathlib.Core.Bool.{Bool, true, false, cond, not}
 use mathlib.Core.Logic.{_⊎_, inl, inr}
-use lib.Dec.{T}
+use lib.Dec.{T, ltb}
 use lib.IntN.{ℤ}
 use lib.Ieee.{Float, nan, inf, fin, up, down, lt, neg, add, sub, round, fits, binary32}
 use lib.Ieee.Fits.{down-pos}
 use lib.Ieee.Exact.{HasValue}
 use lib.Ieee.Back.{round-whole}
-use native.Mathlib.Nat.{div-lt-iff-lt-mul, le-div-iff-mul-le, div-mul-le-self, lt-suc-self, eq-or-lt-of-le, add-mul, suc-mul, mul-le-mul-right}
+use native.Mathlib.Nat.{div-lt-iff-lt-mul, le-div-iff-mul-le, div-mul-le-self, lt-suc-self, eq-or-lt-of-le, add-mul, suc-mul, mul-le-mul-right, add-zero}
 use native.Mathlib.Omega.{arith}
 use borrow.Author.Tests.{ltb-true, ltb-false}
 use Rattle.lists.proofs.Choice.{true-false}
@@ -39,7 +39,7 @@ module _ (m : ℕ) (e : ℤ) (h : lt (fin false m e) big ≡ true) where
 
   near-is : near (fin false m e) ≡ round binary32 false near-to 1
   unfolding near-to
-  near-is = less 23 (add binary32 (fin false m e) big) (summedTo m e) (made .value) (made .low)
+  near-is = less (add binary32 (fin false m e) big) big (summedTo m e) (2 ^ 23) (made .value) (refl, refl) (made .low)
 
   near-few : near-to ≤ 2 ^ 23
   unfolding near-to
@@ -60,39 +60,38 @@ module _ (m : ℕ) (e : ℤ) (h : lt (fin false m e) big ≡ true) where
   unfolding near-to
   at-whole g = omega (arith, made .same (m * up e / down e) g)
 
-  -- above y it is one more
-  down-one : lt (fin false m e) (near (fin false m e)) ≡ true → sub binary32 (near (fin false m e)) one ≡ round binary32 false (m * up e / down e) 1
-  down-one l =
-      let a : m * up e < near-to * down e = ltb-true (m * up e) (near-to * down e) (sym (above-is m e near-to (near (fin false m e)) near-value) ∙ l) in
-      let b : m * up e / down e < near-to = div-lt-iff-lt-mul (down-pos e) .1 a in
-      less 0 (near (fin false m e)) near-to near-value (omega arith) ∙ ap (λ (z : ℕ). round binary32 false z 1) (omega (arith, at-most))
-
-  -- else it is the whole part
-  down-none : lt (fin false m e) (near (fin false m e)) ≡ false → near (fin false m e) ≡ round binary32 false (m * up e / down e) 1
-  down-none l =
-      let a : near-to * down e ≤ m * up e = ltb-false (m * up e) (near-to * down e) (sym (above-is m e near-to (near (fin false m e)) near-value) ∙ l) in
-      let b : near-to ≤ m * up e / down e = le-div-iff-mul-le (down-pos e) .1 a in
-      near-is ∙ ap (λ (z : ℕ). round binary32 false z 1) (omega (arith, at-least))
-
-  -- below y it is the whole part, and y has a fraction
-  up-one : lt (near (fin false m e)) (fin false m e) ≡ true → neg (add binary32 (near (fin false m e)) one) ≡ round binary32 true (upDiv (m * up e) (down e)) 1
-  up-one l =
-      let a : near-to * down e < m * up e = ltb-true (near-to * down e) (m * up e) (sym (below-is m e near-to (near (fin false m e)) near-value) ∙ l) in
-      let b : m * up e < suc (m * up e / down e) * down e = div-lt-iff-lt-mul {x = m * up e} {y = suc (m * up e / down e)} (down-pos e) .0 (lt-suc-self (m * up e / down e)) in
-      let c : suc (m * up e / down e) * down e ≤ (near-to + 1) * down e = mul-le-mul-right (down e) (omega (arith, at-least)) in
-      ap neg (more (near (fin false m e)) near-to near-value) ∙ neg-round binary32 false (near-to + 1) 1
-      ∙ ap (λ (z : ℕ). round binary32 true z 1) (sym (up-is (m * up e) (down e) (near-to + 1) (down-pos e) (omega arith) (omega (arith, add-mul near-to 1 (down e)))))
-
-  -- else it is one more, or y is whole
-  up-none : lt (near (fin false m e)) (fin false m e) ≡ false → neg (near (fin false m e)) ≡ round binary32 true (upDiv (m * up e) (down e)) 1
-  up-none l =
-      let a : m * up e ≤ near-to * down e = ltb-false (near-to * down e) (m * up e) (sym (below-is m e near-to (near (fin false m e)) near-value) ∙ l) in
-      ap neg near-is ∙ neg-round binary32 false near-to 1
-      ∙ ap (λ (z : ℕ). round binary32 true z 1) (sym (up-is (m * up e) (down e) near-to (down-pos e) a (lack (eq-or-lt-of-le (div-mul-le-self (m * up e) (down e))))))
+  -- above y it is one more, and else the whole part
+  down-is : (p : Float) → p ≡ cond (lt (fin false m e) (near (fin false m e))) one nought → sub binary32 (near (fin false m e)) p ≡ round binary32 false (m * up e / down e) 1
+  down-is p h = ap (sub binary32 (near (fin false m e))) h ∙ go (lt (fin false m e) (near (fin false m e))) (sym (above-is m e near-to (near (fin false m e)) near-value))
     where
+      go : (t : Bool) → ltb (m * up e) (near-to * down e) ≡ t → sub binary32 (near (fin false m e)) (cond t one nought) ≡ round binary32 false (m * up e / down e) 1
+      go true g =
+          let b : m * up e / down e < near-to = div-lt-iff-lt-mul (down-pos e) .1 (ltb-true (m * up e) (near-to * down e) g) in
+          less (near (fin false m e)) one near-to 1 near-value (refl, refl) (omega arith) ∙ ap (λ (z : ℕ). round binary32 false z 1) (omega (arith, at-most))
+      go false g =
+          let b : near-to ≤ m * up e / down e = le-div-iff-mul-le (down-pos e) .1 (ltb-false (m * up e) (near-to * down e) g) in
+          less (near (fin false m e)) nought near-to 0 near-value (refl, refl) (omega arith) ∙ ap (λ (z : ℕ). round binary32 false z 1) (omega (arith, at-least))
+
+  -- below y it is the whole part, and y has a fraction; else it is one more, or y is whole
+  up-is-near : (p : Float) → p ≡ cond (lt (near (fin false m e)) (fin false m e)) one nought → neg (add binary32 (near (fin false m e)) p) ≡ round binary32 true (upDiv (m * up e) (down e)) 1
+  up-is-near p h = ap (λ (z : Float). neg (add binary32 (near (fin false m e)) z)) h ∙ go (lt (near (fin false m e)) (fin false m e)) (sym (below-is m e near-to (near (fin false m e)) near-value))
+    where
+      made-of : (k : ℕ) → upDiv (m * up e) (down e) ≡ k → neg (round binary32 false k 1) ≡ round binary32 true (upDiv (m * up e) (down e)) 1
+      made-of k g = neg-round binary32 false k 1 ∙ ap (λ (z : ℕ). round binary32 true z 1) (sym g)
+
       lack : (m * up e / down e * down e ≡ m * up e) ⊎ (m * up e / down e * down e < m * up e) → near-to * down e < m * up e + down e
       lack (inl g) = subst (λ (z : ℕ). z * down e < m * up e + down e) (sym (at-whole (sym g))) (omega (arith, down-pos e))
       lack (inr g) = let c : near-to * down e ≤ suc (m * up e / down e) * down e = mul-le-mul-right (down e) at-most in omega (arith, suc-mul (m * up e / down e) (down e))
+
+      go : (t : Bool) → ltb (near-to * down e) (m * up e) ≡ t → neg (add binary32 (near (fin false m e)) (cond t one nought)) ≡ round binary32 true (upDiv (m * up e) (down e)) 1
+      go true g =
+          let a : near-to * down e < m * up e = ltb-true (near-to * down e) (m * up e) g in
+          let b : m * up e < suc (m * up e / down e) * down e = div-lt-iff-lt-mul {x = m * up e} {y = suc (m * up e / down e)} (down-pos e) .0 (lt-suc-self (m * up e / down e)) in
+          let c : suc (m * up e / down e) * down e ≤ (near-to + 1) * down e = mul-le-mul-right (down e) (omega (arith, at-least)) in
+          ap neg (more (near (fin false m e)) one near-to 1 near-value (refl, refl)) ∙ made-of (near-to + 1) (up-is (m * up e) (down e) (near-to + 1) (down-pos e) (omega arith) (omega (arith, add-mul near-to 1 (down e))))
+      go false g =
+          ap neg (more (near (fin false m e)) nought near-to 0 near-value (refl, refl)) ∙ ap (λ (z : ℕ). neg (round binary32 false z 1)) (add-zero near-to)
+          ∙ made-of near-to (up-is (m * up e) (down e) near-to (down-pos e) (ltb-false (near-to * down e) (m * up e) g) (lack (eq-or-lt-of-le (div-mul-le-self (m * up e) (down e)))))
 
 -- ---- floor
 abbrev floorBy : Bool → ℕ → ℕ → ℕ
@@ -123,34 +122,18 @@ module _ (x : Float) where
       same true a d = refl
       same false a d = refl
 
-pub above-more : (x : Float) → lt nought x ≡ true → lt x big ≡ true → lt x (near x) ≡ true → sub binary32 (near x) one ≡ floorOf x
+pub above-near : (x p : Float) → lt nought x ≡ true → lt x big ≡ true → p ≡ cond (lt x (near x)) one nought → sub binary32 (near x) p ≡ floorOf x
 unfolding lt floorOf wholeBy
-above-more nan a b l = absurd (true-false (sym a))
-above-more (inf true) a b l = absurd (true-false (sym a))
-above-more (inf false) a b l = absurd (true-false (sym b))
-above-more (fin true m d) a b l = absurd (true-false (sym a))
-above-more (fin false m d) a b l = down-one m d b l
+above-near nan p a b h = absurd (true-false (sym a))
+above-near (inf true) p a b h = absurd (true-false (sym a))
+above-near (inf false) p a b h = absurd (true-false (sym b))
+above-near (fin true m d) p a b h = absurd (true-false (sym a))
+above-near (fin false m d) p a b h = down-is m d b p h
 
-pub above-same : (x : Float) → lt nought x ≡ true → lt x big ≡ true → lt x (near x) ≡ false → near x ≡ floorOf x
-unfolding lt floorOf wholeBy
-above-same nan a b l = absurd (true-false (sym a))
-above-same (inf true) a b l = absurd (true-false (sym a))
-above-same (inf false) a b l = absurd (true-false (sym b))
-above-same (fin true m d) a b l = absurd (true-false (sym a))
-above-same (fin false m d) a b l = down-none m d b l
-
-pub below-more : (x : Float) → lt x nought ≡ true → lt (neg x) big ≡ true → lt (near (neg x)) (neg x) ≡ true → neg (add binary32 (near (neg x)) one) ≡ floorOf x
+pub below-near : (x p : Float) → lt x nought ≡ true → lt (neg x) big ≡ true → p ≡ cond (lt (near (neg x)) (neg x)) one nought → neg (add binary32 (near (neg x)) p) ≡ floorOf x
 unfolding lt neg floorOf wholeBy
-below-more nan a b l = absurd (true-false (sym a))
-below-more (inf true) a b l = absurd (true-false (sym b))
-below-more (inf false) a b l = absurd (true-false (sym a))
-below-more (fin false m d) a b l = absurd (omega (arith, ltb-true (m * up d * 1) (0 * 1 * down d) a))
-below-more (fin true m d) a b l = up-one m d b l
-
-pub below-same : (x : Float) → lt x nought ≡ true → lt (neg x) big ≡ true → lt (near (neg x)) (neg x) ≡ false → neg (near (neg x)) ≡ floorOf x
-unfolding lt neg floorOf wholeBy
-below-same nan a b l = absurd (true-false (sym a))
-below-same (inf true) a b l = absurd (true-false (sym b))
-below-same (inf false) a b l = absurd (true-false (sym a))
-below-same (fin false m d) a b l = absurd (omega (arith, ltb-true (m * up d * 1) (0 * 1 * down d) a))
-below-same (fin true m d) a b l = up-none m d b l
+below-near nan p a b h = absurd (true-false (sym a))
+below-near (inf true) p a b h = absurd (true-false (sym b))
+below-near (inf false) p a b h = absurd (true-false (sym a))
+below-near (fin false m d) p a b h = absurd (omega (arith, ltb-true (m * up d * 1) (0 * 1 * down d) a))
+below-near (fin true m d) p a b h = up-is-near m d b p h

@@ -54,36 +54,51 @@ module _ (a d : ℕ) (D : 0 < d) (lo : 2 ^ 23 * d ≤ a) (hi : a < 2 ^ 24 * d) w
   rounded : HasValue (round binary32 false a d) false (closest a d) 1
   rounded = unscale (round binary32 false a d) (closest a d) (subst (λ (z : ℕ). HasValue (round binary32 false a d) false z (2 ^ 149)) grid-is (round-val binary32 a d small))
 
--- ---- a whole number less 2 ^ j, and 1 more
+-- ---- the difference and the sum of two whole numbers
 sub-mul : (n k d : ℕ) → k ≤ n → n * d - k * d ≡ (n - k) * d
 sub-mul n k d h =
     let j : n ≡ k + (n - k) = omega arith in
     let e : n * d ≡ k * d + (n - k) * d = ap (λ (z : ℕ). z * d) j ∙ add-mul k (n - k) d in
     omega arith
 
-pub less : (j : ℕ) (x : Float) (n : ℕ) → HasValue x false n 1 → 2 ^ j ≤ n → sub binary32 x (two-to j) ≡ round binary32 false (n - 2 ^ j) 1
-unfolding sub add neg sum
-less j nan n h lo = absurd h
-less j (inf s) n h lo = absurd h
-less j (fin true m e) n h lo = absurd (true-false (h .0))
-less j (fin false m e) n h lo =
-    let A = m * up e * 1 in
-    let B = 1 * 2 ^ j * down e in
-    let b : B ≡ 2 ^ j * down e = omega arith in
-    let le : B ≤ A = subst (λ (z : ℕ). B ≤ z) (sym (h .1)) (subst (λ (z : ℕ). z ≤ n * down e) (sym b) (mul-le-mul-right (down e) lo)) in
-    let z : ltb A B ≡ false = le-ltb A B le in
-    let q : A - B ≡ (n - 2 ^ j) * down e = ap (λ (y : ℕ). y - B) (h .1) ∙ ap (λ (y : ℕ). n * down e - y) b ∙ sub-mul n (2 ^ j) (down e) lo in
-    rw z (round-same binary32 false (A - B) (down e * 1) (n - 2 ^ j) 1 (omega (arith, down-pos e)) (zero-lt-suc 0) (mul-one (A - B) ∙ q ∙ ap (λ (y : ℕ). (n - 2 ^ j) * y) (sym (mul-one (down e)))))
+-- n as a fraction over the product of two denominators
+over-both : (m : ℕ) (e : ℤ) (n d : ℕ) → m * up e * 1 ≡ n * down e → m * up e * d ≡ n * (down e * d)
+over-both m e n d h = ap (λ (z : ℕ). z * d) (sym (mul-one (m * up e)) ∙ h) ∙ mul-assoc n (down e) d
 
-pub more : (x : Float) (n : ℕ) → HasValue x false n 1 → add binary32 x (two-to 0) ≡ round binary32 false (n + 1) 1
+pub less : (x y : Float) (n k : ℕ) → HasValue x false n 1 → HasValue y false k 1 → k ≤ n → sub binary32 x y ≡ round binary32 false (n - k) 1
+unfolding sub add neg sum
+less nan y n k h g l = absurd h
+less (inf s) y n k h g l = absurd h
+less (fin true m e) y n k h g l = absurd (true-false (h .0))
+less (fin false m e) nan n k h g l = absurd g
+less (fin false m e) (inf s) n k h g l = absurd g
+less (fin false m e) (fin true p d) n k h g l = absurd (true-false (g .0))
+less (fin false m e) (fin false p d) n k h g l =
+    let A = m * up e * down d in
+    let B = p * up d * down e in
+    let D = down e * down d in
+    let a : A ≡ n * D = over-both m e n (down d) (h .1) in
+    let b : B ≡ k * D = over-both p d k (down e) (g .1) ∙ ap (λ (z : ℕ). k * z) (mul-comm (down d) (down e)) in
+    let z : ltb A B ≡ false = le-ltb A B (subst (λ (y : ℕ). B ≤ y) (sym a) (subst (λ (y : ℕ). y ≤ n * D) (sym b) (mul-le-mul-right D l))) in
+    let q : A - B ≡ (n - k) * D = ap (λ (y : ℕ). y - B) a ∙ ap (λ (y : ℕ). n * D - y) b ∙ sub-mul n k D l in
+    rw z (round-same binary32 false (A - B) D (n - k) 1 (mul-pos (down-pos e) (down-pos d)) (zero-lt-suc 0) (mul-one (A - B) ∙ q))
+
+pub more : (x y : Float) (n k : ℕ) → HasValue x false n 1 → HasValue y false k 1 → add binary32 x y ≡ round binary32 false (n + k) 1
 unfolding add sum
-more nan n h = absurd h
-more (inf s) n h = absurd h
-more (fin true m e) n h = absurd (true-false (h .0))
-more (fin false m e) n h =
-    let A = m * up e * 1 in
-    let q : A + 1 * 1 * down e ≡ (n + 1) * down e = ap (λ (y : ℕ). y + 1 * 1 * down e) (h .1) ∙ omega (arith, add-mul n 1 (down e)) in
-    round-same binary32 false (A + 1 * 1 * down e) (down e * 1) (n + 1) 1 (omega (arith, down-pos e)) (zero-lt-suc 0) (mul-one (A + 1 * 1 * down e) ∙ q ∙ ap (λ (y : ℕ). (n + 1) * y) (sym (mul-one (down e))))
+more nan y n k h g = absurd h
+more (inf s) y n k h g = absurd h
+more (fin true m e) y n k h g = absurd (true-false (h .0))
+more (fin false m e) nan n k h g = absurd g
+more (fin false m e) (inf s) n k h g = absurd g
+more (fin false m e) (fin true p d) n k h g = absurd (true-false (g .0))
+more (fin false m e) (fin false p d) n k h g =
+    let A = m * up e * down d in
+    let B = p * up d * down e in
+    let D = down e * down d in
+    let a : A ≡ n * D = over-both m e n (down d) (h .1) in
+    let b : B ≡ k * D = over-both p d k (down e) (g .1) ∙ ap (λ (z : ℕ). k * z) (mul-comm (down d) (down e)) in
+    let q : A + B ≡ (n + k) * D = ap (λ (y : ℕ). y + B) a ∙ ap (λ (y : ℕ). n * D + y) b ∙ sym (add-mul n k D) in
+    round-same binary32 false (A + B) D (n + k) 1 (mul-pos (down-pos e) (down-pos d)) (zero-lt-suc 0) (mul-one (A + B) ∙ q)
 
 -- ---- a whole number against a fraction
 scaled : (a b d : ℕ) → 0 < d → ltb (a * d) (b * d) ≡ ltb a b

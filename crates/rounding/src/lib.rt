@@ -18,10 +18,8 @@ pub fn floor(x: f32) -> f32
     if x > 0.0 {
         if x < 8388608.0 {
             let near = (x + 8388608.0) - 8388608.0;
-            if near > x {
-                return near - 1.0;
-            }
-            return near;
+            let past = if near > x { 1.0 } else { 0.0 };
+            return near - past;
         }
         return x;
     }
@@ -29,10 +27,8 @@ pub fn floor(x: f32) -> f32
         let y = -x;
         if y < 8388608.0 {
             let near = (y + 8388608.0) - 8388608.0;
-            if near < y {
-                return -(near + 1.0);
-            }
-            return -near;
+            let short = if near < y { 1.0 } else { 0.0 };
+            return -(near + short);
         }
     }
     x

@@ -1,7 +1,7 @@
 // The settings of a draw (raster.rs): comparisons, blend factors, modes, the scissor box, and all of them together by value.
 ghost use mathlib.Core.Path.{_≡_};
 ghost use Prim.Native.Nat.{ℕ};
-ghost use Rattle.settings.specs.Settings.{readCompare, readFactor, defaultState};
+ghost use Rattle.settings.specs.Settings.{readCompare, readFactor, compareNumber, factorNumber, defaultState};
 ghost use Rattle.settings.specs.Compare.{testOf};
 ghost use Rattle.settings.specs.Factor.{splatOf, oneMinus, saturatedOf, resolveOf};
 use answers::Refusal;
@@ -41,6 +41,18 @@ pub enum CompareFunc {
 pub enum ReadCompare {
     Is(CompareFunc),
     Refused(Refusal),
+}
+
+impl ReadCompare {
+    // 0, or the refusal's number.
+    pub fn number(self) -> u32
+        ensures { λ r. ⌜ r ≡ compareNumber self ⌝ }
+    {
+        match self {
+            ReadCompare::Is(_) => 0,
+            ReadCompare::Refused(why) => why.number(),
+        }
+    }
 }
 
 impl CompareFunc {
@@ -95,6 +107,18 @@ pub enum BlendFactor {
 pub enum ReadFactor {
     Is(BlendFactor),
     Refused(Refusal),
+}
+
+impl ReadFactor {
+    // 0, or the refusal's number.
+    pub fn number(self) -> u32
+        ensures { λ r. ⌜ r ≡ factorNumber self ⌝ }
+    {
+        match self {
+            ReadFactor::Is(_) => 0,
+            ReadFactor::Refused(why) => why.number(),
+        }
+    }
 }
 
 impl BlendFactor {

@@ -2,3 +2,6 @@
 //! A slice is passed as a pointer and a length, a `&mut` number as a pointer.
 pub mod clip;
 pub mod floats;
+pub mod settings;
+pub mod target;
+pub mod sampler;

@@ -12,15 +12,15 @@ use Rattle.render_target.proofs.clear_depth_box.Tie as tie
 returns : tie.Need-returns
 returns c = cleared-none 1 (λ i. c .before .before .before .before .args .value) nan _ _ _ _ (sym (c .enum-told .given .1) ∙ c .before .before .scissor-bounds .ensures)
 
-clear-depth-rows-requires : tie.Need-clear-depth-rows-requires
-clear-depth-rows-requires c κs =
+clear-depth-area-requires : tie.Need-clear-depth-area-requires
+clear-depth-area-requires c κs =
     let b = box-inside (c .before .before .before .before .before .before .args .width) (c .before .before .before .before .before .before .args .height) (c .before .before .before .before .before .before .args .scissor) (sym (c .before .before .x0 .given .1) ∙ c .before .before .before .before .scissor-bounds .ensures) in
-    (b .0, b .1, rows-fit (c .before .before .before .before .before .before .args .width) (c .before .before .before .before .before .before .args .height) (b .3) (c .before .before .before .before .before .before .pre))
+    (b .0, b .1, b .2, rows-fit (c .before .before .before .before .before .before .args .width) (c .before .before .before .before .before .before .args .height) (b .3) (c .before .before .before .before .before .before .pre))
 
 returns-2 : tie.Need-returns-2
 returns-2 c =
     let b = box-inside (c .before .before .before .before .before .before .before .before .before .args .width) (c .before .before .before .before .before .before .before .before .before .args .height) (c .before .before .before .before .before .before .before .before .before .args .scissor) (sym (c .before .before .before .before .before .x0 .given .1) ∙ c .before .before .before .before .before .before .before .scissor-bounds .ensures) in
-    c .before .before .clear-depth-rows .ensures ∙ rows-clear 1 (λ i. c .before .before .before .before .before .before .before .before .before .args .value) nan _ _ _ _ _ _ _ _ (lit< tt) (b .1) (b .2) (sym (c .before .before .before .before .before .x0 .given .1) ∙ c .before .before .before .before .before .before .before .scissor-bounds .ensures)
+    c .before .before .clear-depth-area .ensures ∙ rows-clear 1 (λ i. c .before .before .before .before .before .before .before .before .before .args .value) nan _ _ _ _ _ _ _ _ (lit< tt) (b .1) (b .2) (sym (c .before .before .before .before .before .x0 .given .1) ∙ c .before .before .before .before .before .before .before .scissor-bounds .ensures)
 
 pub clear-depth-box-spec : {M : Type 1} → statement M
-clear-depth-box-spec = tie.close (tie.spec (λ c κs. search needs) (λ c. search needs) (λ c. search needs) returns (λ c. search needs) (λ c. search needs) (λ c. search needs) (λ c. search needs) clear-depth-rows-requires (λ c. search needs) returns-2)
+clear-depth-box-spec = tie.close (tie.spec (λ c κs. search needs) (λ c. search needs) (λ c. search needs) returns (λ c. search needs) (λ c. search needs) (λ c. search needs) (λ c. search needs) clear-depth-area-requires (λ c. search needs) returns-2)

@@ -93,7 +93,7 @@ macro_rules! helper {
             port: port_,
             first_difference: |range| {
                 range.into_iter().find(|&bits| {
-                    let x = black_box(f32::from_bits(bits as u32));
+                    let x = f32::from_bits(bits as u32);
                     rust(x) != port_(x)
                 })
             },

@@ -12,4 +12,7 @@ parts! {
     oracle,
     floats,
     clip,
+    settings,
+    target,
+    sampling,
 }

@@ -1,0 +1,5 @@
+pub mod Indices
+pub mod Parts
+pub mod Records
+pub mod Chosen
+pub mod Addresses

@@ -1,0 +1,3 @@
+pub mod Texels
+pub mod Addresses
+pub mod Samples

@@ -1,0 +1,3 @@
+pub mod Define
+pub mod Patch
+pub mod Parameters
