@@ -53,7 +53,7 @@ clipPlane p l = cond (eqb (insides p l) (length l)) l (cond (eqb (insides p l) 0
 
 -- ---- the planes in turn
 
--- n planes from p on; under three corners are none
+-- n planes from p on; under three corners are none. The Rust leaves that test out where all are inside: from three corners on it is the same.
 unfoldable pub clipFrom : ℕ → ℕ → List Vertex → List Vertex
 clipFrom p zero l = l
 clipFrom p (suc n) l = cond (ltb (length (clipPlane p l)) 3) [] (clipFrom (suc p) n (clipPlane p l))

@@ -87,7 +87,7 @@ fn walk_edges(polygon: &[f32], len: usize, plane: usize, out: &mut [f32]) -> usi
     n
 }
 
-pub fn clip_plane(polygon: &mut [f32], scratch: &mut [f32], len: usize, plane: usize) -> usize
+fn clip_plane(polygon: &mut [f32], scratch: &mut [f32], len: usize, plane: usize) -> usize
     requires { ⌜ (length (now polygon) ≡ 714) × (length (now scratch) ≡ 714) × (len ≤ 28) ⌝ }
     ensures { λ r. ⌜ cornersOf r (now (polygon .exit)) ≡ clipPlane plane (cornersOf len (now (polygon .entry))) ⌝ }
 {
@@ -104,7 +104,7 @@ pub fn clip_plane(polygon: &mut [f32], scratch: &mut [f32], len: usize, plane: u
 }
 
 // The corners that the seven planes leave in polygon; none where the Rust answers false.
-pub fn clip_frustum(polygon: &mut [f32], scratch: &mut [f32], len: usize) -> usize
+fn clip_frustum(polygon: &mut [f32], scratch: &mut [f32], len: usize) -> usize
     requires { ⌜ (length (now polygon) ≡ 714) × (length (now scratch) ≡ 714) × (len ≤ 3) ⌝ }
     ensures { λ r. ⌜ cornersOf r (now (polygon .exit)) ≡ clipped (cornersOf len (now (polygon .entry))) ⌝ }
 {

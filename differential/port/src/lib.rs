@@ -1,5 +1,6 @@
 //! The port's exported functions behind safe Rust ones: a file for each module of the Rattle crate `probes`.
 //! A slice is passed as a pointer and a length, a `&mut` number as a pointer.
+pub mod clip;
 pub mod floats;
 pub mod settings;
 pub mod target;

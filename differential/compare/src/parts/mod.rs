@@ -11,6 +11,7 @@ macro_rules! parts {
 parts! {
     oracle,
     floats,
+    clip,
     settings,
     target,
     sampling,
