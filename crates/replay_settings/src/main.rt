@@ -3,8 +3,14 @@ ghost use Prim.Native.Nat.{_<_};
 // An entry: the step's number, two codes (4 bytes each), three colours and the answer's four floats by their bits (4 bytes each);
 // for steps 7 and 8 a code and the number that reading it answers.
 use replay::Tally;
-use settings::{BlendFactor, CompareFunc, PipelineState, ReadCompare, ReadFactor, Rgba};
-use settings::{TexEnvMode, TextureStage};
+use settings::BlendFactor;
+use settings::CompareFunc;
+use settings::PipelineState;
+use settings::ReadCompare;
+use settings::ReadFactor;
+use settings::Rgba;
+use settings::TexEnvMode;
+use settings::TextureStage;
 
 fn compare(code: u32) -> CompareFunc {
     let read = CompareFunc::from_enum(code);
