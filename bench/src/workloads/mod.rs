@@ -15,4 +15,5 @@ macro_rules! groups {
 groups! {
     floats,
     target,
+    sampling,
 }

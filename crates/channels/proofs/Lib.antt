@@ -1,3 +1,4 @@
+pub mod Cuts
 pub mod LastBits
-pub mod Scaled
 pub mod Rounded
+pub mod Scaled

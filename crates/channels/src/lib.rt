@@ -1,5 +1,8 @@
 // A colour channel as a byte and as a float from 0 to 1.
 ghost use mathlib.Core.Path.{_≡_};
+ghost use mathlib.Core.Bool.{true, cond};
+ghost use lib.Ieee as Ieee;
+ghost use Rattle.floats.specs.Num.{zero32};
 ghost use Rattle.channels.specs.Channel.{unitOf, byteOf, roundByteOf, heldOf};
 
 // v / 255
@@ -9,15 +12,20 @@ pub fn to_unit(v: u8) -> f32
     v as f32 / 255.0
 }
 
+// x where it is above 0, else 0: one instruction.
+fn from_zero(x: f32) -> f32
+    ensures { λ r. ⌜ r ≡ cond (Ieee.lt zero32 x) x zero32 ⌝ }
+{
+    if x > 0.0 { x } else { 0.0 }
+}
+
 // x within 0 and top, a NaN 0.
 fn held(x: f32, top: f32) -> f32
+    requires { ⌜ Ieee.lt zero32 top ≡ true ⌝ }
     ensures { λ r. ⌜ r ≡ heldOf x top ⌝ }
 {
-    if x > 0.0 {
-        if x < top { x } else { top }
-    } else {
-        0.0
-    }
+    let y = from_zero(x);
+    if y < top { y } else { top }
 }
 
 // (v.clamp(0.0, 1.0) * 255.0 + 0.5) as u8, by the last bits of a sum with 2^23.

@@ -1,2 +1,3 @@
 pub mod Wraps
 pub mod Sides
+pub mod Quick

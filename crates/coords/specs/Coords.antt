@@ -1,9 +1,10 @@
 -- Texel indices along one side of a level, from a texture coordinate.
 use Prim.Native.Nat.{ℕ, _-_, _%_, min}
-use mathlib.Core.Bool.{cond}
+use mathlib.Core.Path.{_≡_}
+use mathlib.Core.Bool.{true, cond}
 use lib.IntN.{ℤ, pos, negsuc}
 use lib.Ieee as Ieee
-use lib.Ieee.{Float}
+use lib.Ieee.{Float, binary32}
 use Rattle.floats.specs.Num.{_⊖_, _⊗_, zero32, half32, ofNat32}
 use Rattle.rounding.specs.Rounding.{floorOf, nextOf}
 use Rattle.levels.specs.declared.Wrap.{Wrap}
@@ -19,6 +20,16 @@ remOf (negsuc n) size = size - 1 - n % size
 unfoldable pub edgeOf : ℤ → ℕ → ℕ
 edgeOf (pos n) size = min n (size - 1)
 edgeOf (negsuc n) size = 0
+
+-- the floor of x as an i64, z, and as a float, v
+pub record Floored (x : Float) (z : ℤ) (v : Float) : Type 0 where
+  pub whole : z ≡ Ieee.toSigned 63 (floorOf x)
+  pub low : v ≡ floorOf x
+
+-- above 0 and below 2 ^ 22
+pub record Few (x : Float) : Type 0 where
+  pub above : Ieee.lt zero32 x ≡ true
+  pub below : Ieee.lt x (Ieee.ofBits binary32 0x4a80_0000) ≡ true
 
 -- texture.rs, wrap_texel
 unfoldable pub wrapTexel : Wrap → ℤ → ℕ → ℕ

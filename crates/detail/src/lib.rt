@@ -234,7 +234,7 @@ fn step_of(t: &[f64; 128], m: f64, k: u64) -> usize
 }
 
 // The largest whole number n with 2^n <= q^128.
-fn steps(t: &[f64; 128], q: f64) -> u64
+pub fn steps(t: &[f64; 128], q: f64) -> u64
     requires { ⌜ Thresholds (now t) ⌝ }
     requires { ⌜ T (Ieee.lt (fin false 1 (pos 0)) q) ⌝ ∗ ⌜ T (Ieee.lt q (inf false)) ⌝ }
     ensures { λ r. ⌜ r ≡ stepsOf q ⌝ }

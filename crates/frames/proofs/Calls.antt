@@ -1,18 +1,18 @@
 -- What a kind of call owes, put together from its parts: a check in front, another call that does the same, a draw's fragments.
 -- Assumes nothing.
 use mathlib.Core.Path.{_≡_, refl, sym, ap, ap₂, _∙_, subst}
-use mathlib.Core.Logic.{_⊎_, inl, inr, _≢_}
+use mathlib.Core.Logic.{_⊎_, inl, inr}
 use mathlib.Core.Bool.{Bool, true, false, cond, true≢false}
-use mathlib.Core.List.{List, [], _∷_, map}
+use mathlib.Core.List.{List}
 use Prim.Native.Nat.{ℕ, _+_, _*_, _≤_, _<_}
 use lib.Dec.{eqb}
-use lib.ListN.{length, getD}
-use Rattle.isolation.specs.Machine.{Act, Agree, Alike, Local, Guest, In}
-use Rattle.isolation.specs.Acts.{refuse, check, Uses}
+use lib.ListN.{length}
+use Rattle.isolation.specs.Machine.{Act, Agree, Alike, Guest, In}
+use Rattle.isolation.specs.Acts.{check, Uses}
 use Rattle.isolation.proofs.Acts.{LocalOn, everywhere, check-local, as-local}
-use Rattle.frames.specs.State.{State, SameSizes, Place, sizes, pixel, byte, texture, Same, places, pixelAt, Answer, done, drew, refused, isRefused}
+use Rattle.frames.specs.State.{State, SameSizes, Place, sizes, pixel, byte, texture, Same, places, pixelAt, Answer, drew, refused, isRefused}
 use Rattle.frames.specs.Windows.{badTarget, Owed}
-use Rattle.frames.specs.Fragments.{paint, taken, Canvas, Work, shown, Fits, SameLengths, FragLocal, workOn, painted, takenBy, PaintReads, paintWrites, paints}
+use Rattle.frames.specs.Fragments.{paint, Canvas, Work, shown, FragLocal, workOn, painted, PaintReads, paintWrites, paints}
 use Rattle.frames.proofs.Fragments.{AllFit, Both, paint-lengths, paint-other, paint-both}
 
 -- on states with B the call keeps the two laws; it never writes the sizes; and it uses a pixel only with Q, and not if it is refused
@@ -75,12 +75,10 @@ module _ {Texture Call : Type 0} (act : Call → Act (State Texture) Answer Plac
 
 -- ---- a draw past its checks
 
-map-same : {A : Type 0} (f g : ℕ → A) (ns : List ℕ) → ((n : ℕ) → In n ns → f n ≡ g n) → map f ns ≡ map g ns
-map-same f g [] h = refl
-map-same f g (n ∷ ns) h = ap₂ (λ x y. x ∷ y) (h n (inl refl)) (map-same f g ns (λ m i. h m (inr i)))
-
--- on states with B: the law of its fragments, each in the scissor box, and the pixels of the box on the target
-module _ {Texture Item C : Type 0} (canvas : Canvas C) (names : List ℕ) (within : ℕ → ℕ → ℕ → Bool) (work : ℕ → ℕ → List Texture → Work Item C)
+-- its work hangs on the named records alone; on states with B its fragments have their law, each lies in the scissor box, and the
+-- pixels of the box are on the target
+module _ {Texture Item C : Type 0} (canvas : Canvas C) (names : List ℕ) (within : ℕ → ℕ → ℕ → Bool) (work : ℕ → ℕ → (ℕ → Texture) → Work Item C)
+    (named : (w h : ℕ) (f g : ℕ → Texture) → ((n : ℕ) → In n names → f n ≡ g n) → work w h f ≡ work w h g)
     (B : State Texture → Type 0)
     (law : (s : State Texture) → B s → FragLocal canvas (workOn canvas names within work s))
     (boxed : (s : State Texture) → B s → (i : Item) → In i (workOn canvas names within work s .items) → within (s .width) (s .height) (workOn canvas names within work s .at i) ≡ true)
@@ -120,8 +118,7 @@ module _ {Texture Item C : Type 0} (canvas : Canvas C) (names : List ℕ) (withi
   same-work : (s t : State Texture) → ((l : Place) → PaintReads canvas names within work s l → Same l s t) → W s ≡ W t
   same-work s t g =
       let z : SameSizes s t = g sizes tt in
-      let r : map (s .textures) names ≡ map (t .textures) names = map-same (s .textures) (t .textures) names (λ n i. g (texture n) i) in
-      rw (z .same-width, z .same-height, r)
+      named (s .width) (s .height) (s .textures) (t .textures) (λ n i. g (texture n) i) ∙ rw (z .same-width, z .same-height)
 
   painted-both : (s t : State Texture) → B s → ((l : Place) → PaintReads canvas names within work s l → Same l s t)
       → Both canvas (λ p. within (s .width) (s .height) p ≡ true) (painted canvas names within work s) (painted canvas names within work t)
@@ -129,7 +126,7 @@ module _ {Texture Item C : Type 0} (canvas : Canvas C) (names : List ℕ) (withi
       subst (λ (w : Work Item C). Both canvas (λ p. within (s .width) (s .height) p ≡ true) (painted canvas names within work s) (paint (w .step (t .store)) (w .items) (begun t)))
       (same-work s t g)
       (paint-both canvas (W s) (law s ok) (λ p. within (s .width) (s .height) p ≡ true) (s .store) (t .store) (W s .items) (begun s) (begun t)
-      (fit s ok) (boxed s ok) (λ b i. g (byte b) i) (begun-both s t g))
+      (fit s ok) (boxed s ok) (g sizes tt .same-store) (λ b i. g (byte b) i) (begun-both s t g))
 
   painted-local : LocalOn places B Painting
   painted-local = record { alike-on = alike; frame-on = frame }

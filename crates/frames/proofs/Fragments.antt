@@ -1,16 +1,14 @@
 -- A run of steps at one pixel each keeps what one step keeps: the lengths, the pixels of no step, and what becomes of a pixel and of
 -- the count hangs only on the pixels of the steps and the store bytes that they take. Assumes nothing.
-use mathlib.Core.Path.{_≡_, refl, sym, ap, _∙_, subst}
+use mathlib.Core.Path.{_≡_, refl, sym, ap, _∙_}
 use mathlib.Core.Logic.{_⊎_, inl, inr, _≢_}
 use mathlib.Core.List.{List, [], _∷_, _++_}
-use Prim.Native.Nat.{ℕ, zero, suc, _+_, _*_, _-_, _≤_, _<_}
+use Prim.Native.Nat.{ℕ, zero, suc, _+_, _-_, _≤_, _<_}
 use native.Mathlib.Decide.{ℕ-discrete}
 use native.Mathlib.Omega.{arith}
 use lib.ListN.{length, getD}
-use lib.Ieee.{Float}
 use Rattle.isolation.specs.Machine.{In}
 use Rattle.lists.specs.Lists.{turns, between}
-use Rattle.frames.specs.State.{Pixel, pixelAt}
 use Rattle.frames.specs.Fragments.{paint, taken, Canvas, Work, shown, Fits, SameLengths, FragLocal}
 
 pub in-left : {A : Type 0} (a : A) (xs ys : List A) → In a xs → In a (xs ++ ys)
@@ -67,23 +65,23 @@ module _ {Item C : Type 0} (canvas : Canvas C) (w : Work Item C) (law : FragLoca
   paint-other st (i ∷ is) c q f n =
       paint-other st is (w .step st i c) q (fits-after st i is c f) (λ j m. n j (inr m)) ∙ law .other st i c q (f i (inl refl)) (n i (inl refl))
 
-  pub paint-both : (K : ℕ → Type 0) (st su : List ℕ) (is : List Item) (c k : C) → Fit is c → ((i : Item) → In i is → K (w .at i))
+  pub paint-both : (K : ℕ → Type 0) (st su : List ℕ) (is : List Item) (c k : C) → Fit is c → ((i : Item) → In i is → K (w .at i)) → length st ≡ length su
       → ((b : ℕ) → In b (taken (w .step st) (w .took st) is c) → getD st b 0 ≡ getD su b 0)
       → Both canvas K c k → Both canvas K (paint (w .step st) is c) (paint (w .step su) is k)
   unfolding paint taken
-  paint-both K st su [] c k f m t h = h
-  paint-both K st su (i ∷ is) c k f m t h =
-      paint-both K st su is (w .step st i c) (w .step su i k) (fits-after st i is c f) (λ j x. m j (inr x)) (λ b x. t b (in-right b (w .took st i c) _ x)) after
+  paint-both K st su [] c k f m e t h = h
+  paint-both K st su (i ∷ is) c k f m e t h =
+      paint-both K st su is (w .step st i c) (w .step su i k) (fits-after st i is c f) (λ j x. m j (inr x)) e (λ b x. t b (in-right b (w .took st i c) _ x)) after
     where
       one : (shown canvas (w .step st i c) (w .at i) ≡ shown canvas (w .step su i k) (w .at i)) × (canvas .count (w .step st i c) ≡ canvas .count (w .step su i k))
-      one = law .here st su i c k (f i (inl refl)) (h .both-lengths) (h .both-shown (w .at i) (m i (inl refl))) (h .both-count)
+      one = law .here st su i c k (f i (inl refl)) (h .both-lengths) (h .both-shown (w .at i) (m i (inl refl))) (h .both-count) e
           (λ b x. t b (in-left b (w .took st i c) _ x))
 
       fits-too : Fits canvas k (w .at i)
       fits-too = let g = f i (inl refl) in let l = h .both-lengths in (rw (← l .0) (g .0), rw (← l .1) (g .1))
 
       seen : (q : ℕ) → K q → Dec (q ≡ w .at i) → shown canvas (w .step st i c) q ≡ shown canvas (w .step su i k) q
-      seen q x (yes e) = rw e (one .0)
+      seen q x (yes r) = rw r (one .0)
       seen q x (no n) = law .other st i c q (f i (inl refl)) n ∙ h .both-shown q x ∙ sym (law .other su i k q fits-too n)
 
       after : Both canvas K (w .step st i c) (w .step su i k)
@@ -128,3 +126,28 @@ in-spread f k (suc n) i P h x = go (in-either i (f k) (spread f (k + 1) n) x) (i
     go : In i (f k) ⊎ In i (spread f (k + 1) n) → (((j : ℕ) → k + 1 ≤ j → j < k + 1 + n → In i (f j) → P) → In i (spread f (k + 1) n) → P) → P
     go (inl y) r = h k (omega arith) (omega arith) y
     go (inr y) r = r (λ j a b z. h j (omega arith) (omega arith) z) y
+
+-- ---- a loop over rows, with a loop over columns in it
+
+-- the items of the columns x0 to x1 and the rows y0 to y1, row by row
+unfoldable pub grid : {Item : Type 0} → (ℕ → ℕ → Item) → ℕ → ℕ → ℕ → ℕ → List Item
+grid f x0 x1 y0 y1 = spread (λ y. spread (λ x. f x y ∷ []) x0 (x1 - x0)) y0 (y1 - y0)
+
+pub grid-paint : {Item Canvas : Type 0} (step : Item → Canvas → Canvas) (f : ℕ → ℕ → Item) (x0 x1 y0 y1 : ℕ) (c : Canvas)
+    → between (λ y. between (λ x. step (f x y)) x0 x1) y0 y1 c ≡ paint step (grid f x0 x1 y0 y1) c
+unfolding grid paint
+grid-paint step f x0 x1 y0 y1 c =
+    between-paint step (λ y. spread (λ x. f x y ∷ []) x0 (x1 - x0)) (λ y. between (λ x. step (f x y)) x0 x1)
+    (λ y d. between-paint step (λ x. f x y ∷ []) (λ x. step (f x y)) (λ x e. refl) x0 x1 d) y0 y1 c
+
+-- an item of the grid has its column and its row there
+pub in-grid : {Item : Type 0} (f : ℕ → ℕ → Item) (x0 x1 y0 y1 : ℕ) (i : Item) (P : Type 0)
+    → ((x y : ℕ) → x0 ≤ x → x < x1 → y0 ≤ y → y < y1 → i ≡ f x y → P) → In i (grid f x0 x1 y0 y1) → P
+unfolding grid
+in-grid {Item} f x0 x1 y0 y1 i P h m =
+    in-spread (λ y. spread (λ x. f x y ∷ []) x0 (x1 - x0)) y0 (y1 - y0) i P
+    (λ y a b k. in-spread (λ x. f x y ∷ []) x0 (x1 - x0) i P (λ x a' b' k'. h x y (omega arith) (omega arith) (omega arith) (omega arith) (alone x y k')) k) m
+  where
+    alone : (x y : ℕ) → In i (f x y ∷ []) → i ≡ f x y
+    alone x y (inl e) = e
+    alone x y (inr z) = absurd z

@@ -12,7 +12,7 @@ use lib.Seq.{getD-set-same, getD-set-other}
 use lib.Ieee.{nan}
 use Rattle.isolation.specs.Machine.{In}
 use Rattle.frames.specs.State.{Pixel, pixelAt}
-use Rattle.frames.specs.Fragments.{Fits, SameLengths, FragLocal, Work, shown}
+use Rattle.frames.specs.Fragments.{Fits, SameLengths, FragLocal, shown}
 use Rattle.frames.specs.Gather.{Drawn, drawn, Frag, putColor, putPixel, fragWork, gather}
 use Rattle.frames.proofs.Pixels.{pixel-is, pixel-of}
 
@@ -115,17 +115,17 @@ module _ {Item : Type 0} (items : List Item) (at : Item → ℕ) (frag : List �
   }
     where
       here : (st su : List ℕ) (i : Item) (d e : Drawn) → Fits drawn d (at i) → SameLengths drawn d e → shown drawn d (at i) ≡ shown drawn e (at i) → d .count ≡ e .count
-          → ((b : ℕ) → In b (fragWork items at frag .took st i d) → getD st b 0 ≡ getD su b 0)
+          → length st ≡ length su → ((b : ℕ) → In b (fragWork items at frag .took st i d) → getD st b 0 ≡ getD su b 0)
           → (shown drawn (fragWork items at frag .step st i d) (at i) ≡ shown drawn (fragWork items at frag .step su i e) (at i))
           × (fragWork items at frag .step st i d .count ≡ fragWork items at frag .step su i e .count)
-      here st su i d e f l h c t =
+      here st su i d e f l h c n t =
           let one : frag st i (shown drawn d (at i)) .put ≡ frag su i (shown drawn e (at i)) .put
           = ap (λ z. z .put) (same st su i (shown drawn d (at i)) t ∙ ap (frag su i) h) in
           subst (λ (o : Option Pixel). (shown drawn (fragWork items at frag .step st i d) (at i) ≡ shown drawn (putPixel e (at i) o) (at i))
           × (fragWork items at frag .step st i d .count ≡ putPixel e (at i) o .count)) one
           (put-same d e (at i) _ f l h c)
 
-bytes-same : (st su l : List ℕ) → ((b : ℕ) → In b l → getD st b 0 ≡ getD su b 0) → map (λ b. getD st b 0) l ≡ map (λ b. getD su b 0) l
+pub bytes-same : (st su l : List ℕ) → ((b : ℕ) → In b l → getD st b 0 ≡ getD su b 0) → map (λ b. getD st b 0) l ≡ map (λ b. getD su b 0) l
 bytes-same st su [] h = refl
 bytes-same st su (a ∷ l) h = ap₂ (λ x y. x ∷ y) (h a (inl refl)) (bytes-same st su l (λ b i. h b (inr i)))
 

@@ -1,16 +1,15 @@
 -- The claim of specs/Windows.antt from its premises, for any kinds of call that owe what `Owed` says. Each premise gives one part of
 -- "no guest reads what another wrote last", and the generic theorem does the rest. Assumes nothing.
-use mathlib.Core.Path.{_≡_, refl, sym, ap, _∙_, subst}
+use mathlib.Core.Path.{_≡_, sym, _∙_}
 use mathlib.Core.Logic.{_⊎_, inl, inr, _≢_}
-use mathlib.Core.Bool.{Bool, true, false, true≢false}
-use mathlib.Core.Option.{Option, none, some}
-use mathlib.Core.List.{List, [], _∷_}
+use mathlib.Core.Bool.{Bool, true, true≢false}
+use mathlib.Core.Option.{none, some}
+use mathlib.Core.List.{List}
 use Prim.Native.Nat.{ℕ}
-use lib.ListN.{length, getD}
-use Rattle.isolation.specs.Machine.{Guest, Act, Local, Machine, Turn, Moment, In, Own, run, alone, nobody, moments, lastWriter, ReadsAt, WritesAt, NoForeignReads, AsAlone}
+use Rattle.isolation.specs.Machine.{Guest, Act, Local, Machine, Turn, Moment, Own, run, nobody, lastWriter, ReadsAt, WritesAt, NoForeignReads, AsAlone}
 use Rattle.isolation.specs.Acts.{Uses}
 use Rattle.isolation.proofs.Alone.{isolation, untouched, still, EveryWriter, last-had, end-had, own, unwritten}
-use Rattle.frames.specs.State.{State, SameSizes, Place, sizes, pixel, byte, texture, Same, places, pixelAt, Answer, isRefused}
+use Rattle.frames.specs.State.{State, SameSizes, Place, sizes, pixel, byte, texture, Same, places, Answer}
 use Rattle.frames.proofs.Pixels.{all-colors, all-depths}
 use Rattle.frames.specs.Windows.{machine, badTarget, Owed, During, Premises, Claim}
 

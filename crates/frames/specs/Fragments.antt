@@ -2,7 +2,7 @@
 use mathlib.Core.Path.{_≡_}
 use mathlib.Core.Logic.{_≢_}
 use mathlib.Core.Bool.{Bool, true, false}
-use mathlib.Core.List.{List, [], _∷_, _++_, map}
+use mathlib.Core.List.{List, [], _∷_, _++_}
 use Prim.Native.Nat.{ℕ, _+_, _*_, _≤_, _<_}
 use lib.ListN.{length, getD}
 use lib.Ieee.{Float}
@@ -29,7 +29,7 @@ pub record Canvas (C : Type 0) : Type 0 where
   pub begin-depths : (cs : List ℕ) (ds : List Float) → depths (begin cs ds) ≡ ds
   pub begin-count : (cs : List ℕ) (ds : List Float) → count (begin cs ds) ≡ 0
 
--- A draw's work, once a target's sides and its textures' records are known: its fragments in order, the pixel of each, what each
+-- A draw's work, once a target's sides and the textures' records are known: its fragments in order, the pixel of each, what each
 -- does on a store and a canvas, and the store bytes that it takes there.
 pub record Work (Item C : Type 0) : Type 0 where
   pub items : List Item
@@ -54,15 +54,15 @@ module _ {C : Type 0} (canvas : Canvas C) where
     pub lengths : (st : List ℕ) (i : Item) (c : C) → SameLengths (w .step st i c) c
     -- it changes its own pixel at most
     pub other : (st : List ℕ) (i : Item) (c : C) (q : ℕ) → Fits c (w .at i) → q ≢ w .at i → shown (w .step st i c) q ≡ shown c q
-    -- what becomes of its pixel and of the count hangs on that pixel, the count, and the store bytes that it takes
+    -- what becomes of its pixel and of the count hangs on that pixel, the count, the store's length and the store bytes that it takes
     pub here : (st su : List ℕ) (i : Item) (c k : C) → Fits c (w .at i) → SameLengths c k → shown c (w .at i) ≡ shown k (w .at i)
-        → canvas .count c ≡ canvas .count k → ((b : ℕ) → In b (w .took st i c) → getD st b 0 ≡ getD su b 0)
+        → canvas .count c ≡ canvas .count k → length st ≡ length su → ((b : ℕ) → In b (w .took st i c) → getD st b 0 ≡ getD su b 0)
         → (shown (w .step st i c) (w .at i) ≡ shown (w .step su i k) (w .at i)) × (canvas .count (w .step st i c) ≡ canvas .count (w .step su i k))
 
-  -- names: the textures whose records the draw is handed. within: whether a pixel of a target of such sides is in its scissor box.
-  module _ {Texture Item : Type 0} (names : List ℕ) (within : ℕ → ℕ → ℕ → Bool) (work : ℕ → ℕ → List Texture → Work Item C) where
+  -- names: the textures whose records the work hangs on. within: whether a pixel of a target of such sides is in its scissor box.
+  module _ {Texture Item : Type 0} (names : List ℕ) (within : ℕ → ℕ → ℕ → Bool) (work : ℕ → ℕ → (ℕ → Texture) → Work Item C) where
     abbrev pub workOn : State Texture → Work Item C
-    workOn s = work (s .width) (s .height) (map (s .textures) names)
+    workOn s = work (s .width) (s .height) (s .textures)
 
     abbrev pub painted : State Texture → C
     painted s = paint (workOn s .step (s .store)) (workOn s .items) (canvas .begin (s .colors) (s .depths))

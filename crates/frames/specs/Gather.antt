@@ -1,6 +1,6 @@
 -- A way to write fragments that have the law of a fragment whatever they do: decide on the pixel as it stands whether the stages are
 -- reached, list the addresses of the texel bytes, then shade with the bytes found there.
-use mathlib.Core.Path.{_≡_, refl}
+use mathlib.Core.Path.{refl}
 use mathlib.Core.Bool.{Bool, cond}
 use mathlib.Core.Option.{Option, none, some}
 use mathlib.Core.List.{List, [], map}

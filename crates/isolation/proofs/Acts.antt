@@ -1,12 +1,12 @@
 -- The two laws of calls that are made from calls. `LocalOn B` asks the laws of a call on states with B only: what stands behind a
 -- check needs them only where the check is passed. Assumes nothing.
-use mathlib.Core.Path.{_≡_, refl, sym, ap, ap₂, _∙_, subst}
+use mathlib.Core.Path.{_≡_, refl, sym, ap, ap₂, _∙_}
 use mathlib.Core.Logic.{_⊎_, inl, inr}
 use mathlib.Core.Bool.{Bool, true, false, cond, _||_, true≢false}
 use Prim.Native.Nat.{ℕ}
 use lib.Dec.{eqb}
 use Rattle.isolation.specs.Machine.{Act, Places, Agree, Alike, Local}
-use Rattle.isolation.specs.Acts.{refuse, check, _then_by_, Uses}
+use Rattle.isolation.specs.Acts.{refuse, check, _then_by_}
 
 or-false : (x y : Bool) → (x || y) ≡ false → (x ≡ false) × (y ≡ false)
 or-false true y e = absurd (true≢false e)

@@ -1,17 +1,17 @@
 -- The theorem `Isolation`, by induction on the list of calls: all along, the shared state and the guest's own are the same at every
 -- place that nobody or the guest wrote last. Then what follows where every writer of a place is known. Assumes nothing.
 use mathlib.Core.Path.{_≡_, refl, sym, ap, ap₂, _∙_, subst}
-use mathlib.Core.Logic.{_⊎_, inl, inr, _≢_}
-use mathlib.Core.Bool.{Bool, true, false, cond, true≢false}
+use mathlib.Core.Logic.{inl, inr, _≢_}
+use mathlib.Core.Bool.{Bool, true, false, cond}
 use mathlib.Core.Option.{Option, none, some}
-use mathlib.Core.List.{List, [], _∷_}
+use mathlib.Core.List.{[], _∷_}
 use Prim.Native.Nat.{ℕ, _+_}
 use native.Mathlib.Decide.{ℕ-discrete}
 use native.Mathlib.Omega.{arith}
 use lib.Dec.{eqb}
 use borrow.Author.Tests.{eqb-true, eqb-false}
-use Rattle.isolation.specs.Machine.{Guest, Act, Places, Agree, Alike, Local, Machine, Turn, Moment, Played, In, Own}
-use Rattle.isolation.specs.Machine.{Turns, Last, next, answer, run, answersOf, billOf, play, only, alone, nobody, mark, lastWriter, moments, ReadsAt, WritesAt, NoForeignReads, AsAlone, Isolation}
+use Rattle.isolation.specs.Machine.{Guest, Alike, Local, Machine, Turn, Moment, In, Own}
+use Rattle.isolation.specs.Machine.{Turns, Last, next, answer, run, answersOf, billOf, play, only, nobody, mark, lastWriter, moments, WritesAt, NoForeignReads, AsAlone, Isolation}
 
 none-some : {h : Guest} → none ≡ some h → ⊥
 none-some e = let z : _≡_ {A = ℕ} 0 1 = cc in omega arith

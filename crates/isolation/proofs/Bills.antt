@@ -1,10 +1,10 @@
 -- A guest's bill is the cost of its own answers, added up; so is that of the guest alone. Assumes nothing.
-use mathlib.Core.Path.{_≡_, refl, ap, _∙_}
+use mathlib.Core.Path.{_≡_, refl, ap}
 use mathlib.Core.Bool.{Bool, true, false, cond}
 use mathlib.Core.List.{List, [], _∷_}
 use Prim.Native.Nat.{ℕ, _+_}
 use lib.Dec.{eqb}
-use Rattle.isolation.specs.Machine.{Guest, Machine, Turn, Turns, next, answer, answersOf, billOf, play}
+use Rattle.isolation.specs.Machine.{Guest, Machine, Turns, next, answer, answersOf, billOf, play}
 
 abbrev pub total : {Answer : Type 0} → (Answer → ℕ) → List Answer → ℕ
 total f [] = 0

@@ -1,7 +1,7 @@
 -- Calls made from calls: to refuse, to check first, to do one after the other. proofs/Acts.antt has their two laws.
 use mathlib.Core.Path.{_≡_}
 use mathlib.Core.Logic.{_⊎_}
-use mathlib.Core.Bool.{Bool, true, false, cond, _||_}
+use mathlib.Core.Bool.{true, false, cond, _||_}
 use Prim.Native.Nat.{ℕ}
 use lib.Dec.{eqb}
 use Rattle.isolation.specs.Machine.{Act}

@@ -4,5 +4,8 @@ pub mod Rows
 pub mod Turns
 pub mod Search
 pub mod Members
-pub mod Pastes
 pub mod Paste
+pub mod Parts
+pub mod Stores
+pub mod Cells
+pub mod Flats

@@ -9,8 +9,8 @@ use mipmaps::Coordinates;
 ghost use mathlib.Core.Path.{_≡_};
 ghost use mathlib.Core.Bool.{true};
 ghost use Prim.Native.Nat.{_+_, _*_, _≤_, _<_};
-ghost use lib.ListN.{length};
-ghost use Rattle.levels.specs.Levels.{Fits, validOf};
+ghost use lib.ListN.{length, getD};
+ghost use Rattle.levels.specs.Levels.{absent, Fits, validOf};
 ghost use Rattle.coords.specs.Coords.{wrapCoord, firstOf, secondOf, weightOf};
 ghost use Rattle.mipmaps.specs.Mipmaps.{Within};
 ghost use Rattle.detail.specs.Steps.{Thresholds};
@@ -153,6 +153,44 @@ fn mix_texels(part: u32, a: Texel, b: Texel) -> Texel
     }
 }
 
+// Level k of a record's array. An index that is no constant would copy the whole record.
+fn level_at(texture: Texture, k: usize) -> MipLevel
+    requires { ⌜ k < 11 ⌝ }
+    ensures { λ r. ⌜ r ≡ getD (texture .levels) k absent ⌝ }
+{
+    if k < 1 {
+        return texture.levels[0];
+    }
+    if k < 2 {
+        return texture.levels[1];
+    }
+    if k < 3 {
+        return texture.levels[2];
+    }
+    if k < 4 {
+        return texture.levels[3];
+    }
+    if k < 5 {
+        return texture.levels[4];
+    }
+    if k < 6 {
+        return texture.levels[5];
+    }
+    if k < 7 {
+        return texture.levels[6];
+    }
+    if k < 8 {
+        return texture.levels[7];
+    }
+    if k < 9 {
+        return texture.levels[8];
+    }
+    if k < 10 {
+        return texture.levels[9];
+    }
+    texture.levels[10]
+}
+
 fn sample_level(
     store: &[u8],
     texture: Texture,
@@ -164,7 +202,7 @@ fn sample_level(
     requires { ⌜ Readable (length (now store)) texture ⌝ ∗ ⌜ level ≤ texture .«max_mipmap_level» ⌝ }
     ensures { λ r. ⌜ r ≡ levelTexel (now (store .entry)) texture level filter s t ⌝ }
 {
-    let m = texture.levels[level];
+    let m = level_at(texture, level);
     let wrap_s = texture.wrap_s;
     let wrap_t = texture.wrap_t;
     sample_filter(store, m, wrap_s, wrap_t, filter, s, t)

@@ -2,6 +2,8 @@
 -- Each float operation stands once, in the order the Rust writes it.
 use Prim.Native.Nat.{ℕ}
 use mathlib.Core.Bool.{Bool, true, false, cond}
+use lib.IntN.{pos}
+use lib.Signed.{leZ, ltZ}
 use lib.Ieee as Ieee
 use lib.Ieee.{Float, binary32}
 use Rattle.floats.specs.Num.{_⊕_, _⊖_, _⊗_, _⊘_, zero32, half32, one32, ofNat32, absOf, finiteOf, clampOf}
@@ -36,6 +38,10 @@ unfoldable pub divides : Vertex → Bool
 divides v = cond (wFits (coord 3 v)) (ndcFits (ndcOf 0 v) (ndcOf 1 v) (ndcOf 2 v)) false
 
 -- ---- its place
+
+-- Document 01, Draw: a width or height of zero or less draws nothing
+unfoldable pub viewportDraws : Viewport → Bool
+viewportDraws v = cond (leZ (v .width) (pos 0)) false (ltZ (pos 0) (v .height))
 
 -- the viewport's numbers and the target's height, as floats
 unfoldable pub viewOf : Viewport → ℕ → View

@@ -1,6 +1,6 @@
 // A triangle's corners on the screen: perspective divide, viewport and depth range; its signed area, facing and culling.
 ghost use mathlib.Core.Path.{_≡_};
-ghost use Rattle.screen.specs.Screen.{wFits, ndcFits, viewOf, xOf, yOf, zOf, cornerOf};
+ghost use Rattle.screen.specs.Screen.{wFits, ndcFits, viewportDraws, viewOf, xOf, yOf, zOf, cornerOf};
 ghost use Rattle.screen.specs.Facing.{areaOf, areaFits, frontOf, discardOf};
 use settings::Cull;
 use settings::CullMode;
@@ -50,6 +50,16 @@ fn ndc_fits(x: f32, y: f32, z: f32) -> bool
         return false;
     }
     floats::is_finite(z)
+}
+
+// A viewport of zero or less draws nothing.
+pub fn viewport_draws(viewport: Viewport) -> bool
+    ensures { λ r. ⌜ r ≡ viewportDraws viewport ⌝ }
+{
+    if viewport.width <= 0 {
+        return false;
+    }
+    viewport.height > 0
 }
 
 // The viewport and the target's height, as the floats that corners are placed by.

@@ -1,1 +1,2 @@
 pub mod Setups
+pub mod Outcomes

@@ -1,4 +1,5 @@
 -- What becomes of a triangle left by clipping, by its tests. Assumes nothing.
+use Prim.Native.Nat.{ℕ}
 use mathlib.Core.Path.{_≡_, refl, sym, _∙_}
 use mathlib.Core.Bool.{Bool, true, false}
 use lib.Ieee.{Float}
@@ -7,6 +8,8 @@ use Rattle.settings.specs.declared.Cull.{Cull}
 use Rattle.settings.specs.declared.DepthRange.{DepthRange}
 use Rattle.settings.specs.declared.FrontFace.{FrontFace}
 use Rattle.vertices.specs.declared.Vertex.{Vertex}
+use Rattle.scissor.specs.declared.Bounds.{Bounds}
+use Rattle.scissor.specs.declared.Bounds.the-variants.{Empty, Box}
 use Rattle.screen.specs.declared.View.{View}
 use Rattle.screen.specs.declared.ScreenVertex.{ScreenVertex}
 use Rattle.screen.specs.declared.Corner.{Corner}
@@ -15,8 +18,6 @@ use Rattle.screen.specs.Screen.{divides, screenOf, cornerOf}
 use Rattle.screen.specs.Facing.{areaOf, areaFits, frontOf, discardOf}
 use Rattle.setup.specs.declared.PixelBox.{PixelBox}
 use Rattle.setup.specs.declared.Raster.{Raster}
-use Rattle.setup.specs.declared.Covered.{Covered}
-use Rattle.setup.specs.declared.Covered.the-variants as Covered
 use Rattle.setup.specs.declared.Setup.{Setup}
 use Rattle.setup.specs.declared.Setup.the-variants.{Nothing, Draws}
 use Rattle.setup.specs.Box.{coveredOf}
@@ -35,11 +36,11 @@ module _ (f : FrontFace) (cull : Cull) (within : PixelBox) (a b c : ScreenVertex
     discarded k = rw (← e, h, k)
 
     module _ (k : discardOf cull (frontOf f area) ≡ false) where
-      pub no-pixels : coveredOf a b c within ≡ Covered.Nothing → Nothing ≡ onScreen f cull within a b c
+      pub no-pixels : coveredOf a b c within ≡ Empty → Nothing ≡ onScreen f cull within a b c
       unfolding onScreen
       no-pixels m = rw (← e, h, k, m)
 
-      pub covers : {p : PixelBox} → coveredOf a b c within ≡ Covered.Pixels p → Draws (record { a = a; b = b; c = c; «inv_area» = one32 ⊘ area; pixels = p }) ≡ onScreen f cull within a b c
+      pub covers : {x0 y0 x1 y1 : ℕ} → coveredOf a b c within ≡ Box x0 y0 x1 y1 → Draws (record { a = a; b = b; c = c; «inv_area» = one32 ⊘ area; pixels = record { x0 = x0; y0 = y0; x1 = x1; y1 = y1 } }) ≡ onScreen f cull within a b c
       unfolding onScreen
       covers m = rw (← e, h, k, m) (rw e)
 

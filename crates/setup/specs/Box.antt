@@ -1,21 +1,13 @@
 -- The pixels that a triangle can cover: raster.rs, raster_clipped, the bounding box cut to the scissor's.
 use Prim.Native.Nat.{ℕ, max, min}
-use mathlib.Core.Bool.{Bool, cond}
-use lib.Dec.{ltb}
-use lib.IntN.{ℤ, pos, negsuc}
 use lib.Ieee as Ieee
 use lib.Ieee.{Float, binary32}
 use Rattle.floats.specs.Num.{minOf, maxOf, inf32}
 use Rattle.rounding.specs.Rounding.{floorOf, ceilOf, nextOf}
+use Rattle.scissor.specs.declared.Bounds.{Bounds}
+use Rattle.scissor.specs.Scissor.{fromZero, boxOf}
 use Rattle.screen.specs.declared.ScreenVertex.{ScreenVertex}
 use Rattle.setup.specs.declared.PixelBox.{PixelBox}
-use Rattle.setup.specs.declared.Covered.{Covered}
-use Rattle.setup.specs.declared.Covered.the-variants.{Nothing, Pixels}
-
--- a number, or 0 below zero: no box that it is cut to starts there
-abbrev pub fromZero : ℤ → ℕ
-fromZero (pos n) = n
-fromZero (negsuc n) = 0
 
 -- raster.rs, raster_clipped: fold(f32::INFINITY, min), fold(f32::NEG_INFINITY, max)
 unfoldable pub leastOf : Float → Float → Float → Float
@@ -24,7 +16,7 @@ leastOf a b c = minOf (minOf (minOf inf32 a) b) c
 unfoldable pub greatestOf : Float → Float → Float → Float
 greatestOf a b c = maxOf (maxOf (maxOf (Ieee.ofBits binary32 0xff80_0000) a) b) c
 
--- the floor of the least, as an i32, cut to a box that starts at lo
+-- the floor of the least, as an i32, cut to a box that starts at lo, which is never below zero
 unfoldable pub startOf : Float → ℕ → ℕ
 startOf m lo = max (fromZero (Ieee.toSigned 31 (floorOf m))) lo
 
@@ -32,11 +24,7 @@ startOf m lo = max (fromZero (Ieee.toSigned 31 (floorOf m))) lo
 unfoldable pub endOf : Float → ℕ → ℕ
 endOf m hi = min (fromZero (nextOf 31 (Ieee.toSigned 31 (ceilOf m)))) hi
 
--- nothing where no column or no row is left
-unfoldable pub boxOf : ℕ → ℕ → ℕ → ℕ → Covered
-boxOf x0 y0 x1 y1 = cond (ltb x0 x1) (cond (ltb y0 y1) (Pixels (record { x0 = x0; y0 = y0; x1 = x1; y1 = y1 })) Nothing) Nothing
-
-unfoldable pub coveredOf : ScreenVertex → ScreenVertex → ScreenVertex → PixelBox → Covered
+unfoldable pub coveredOf : ScreenVertex → ScreenVertex → ScreenVertex → PixelBox → Bounds
 coveredOf a b c within =
     boxOf (startOf (leastOf (a .x) (b .x) (c .x)) (within .x0)) (startOf (leastOf (a .y) (b .y) (c .y)) (within .y0))
     (endOf (greatestOf (a .x) (b .x) (c .x)) (within .x1)) (endOf (greatestOf (a .y) (b .y) (c .y)) (within .y1))

@@ -2,9 +2,11 @@
 ghost use mathlib.Core.Path.{_≡_};
 ghost use Prim.Native.Nat.{max, min};
 ghost use Rattle.rounding.specs.Rounding.{numberOf};
-ghost use Rattle.setup.specs.Box.{fromZero, leastOf, greatestOf, startOf, endOf, boxOf, coveredOf};
+ghost use Rattle.scissor.specs.Scissor.{fromZero, boxOf};
+ghost use Rattle.setup.specs.Box.{leastOf, greatestOf, startOf, endOf, coveredOf};
 ghost use Rattle.setup.specs.Setup.{setupOf, onScreen};
 use rounding::Whole;
+use scissor::Bounds;
 use screen::Corner;
 use screen::ScreenVertex;
 use screen::View;
@@ -19,11 +21,6 @@ pub struct PixelBox {
     pub y0: u32,
     pub x1: u32,
     pub y1: u32,
-}
-
-pub enum Covered {
-    Nothing,
-    Pixels(PixelBox),
 }
 
 pub struct Raster {
@@ -104,24 +101,24 @@ fn box_end(greatest: f32, hi: u32) -> u32
     )
 }
 
-fn box_of(x0: u64, y0: u64, x1: u32, y1: u32) -> Covered
+fn box_of(x0: u64, y0: u64, x1: u32, y1: u32) -> Bounds
     ensures { λ r. ⌜ r ≡ boxOf x0 y0 x1 y1 ⌝ }
 {
     if x0 >= x1 as u64 {
-        return Covered::Nothing;
+        return Bounds::Empty;
     }
     if y0 >= y1 as u64 {
-        return Covered::Nothing;
+        return Bounds::Empty;
     }
-    Covered::Pixels(PixelBox {
+    Bounds::Box {
         x0: x0 as u32,
         y0: y0 as u32,
         x1,
         y1,
-    })
+    }
 }
 
-pub fn covered_box(a: ScreenVertex, b: ScreenVertex, c: ScreenVertex, within: PixelBox) -> Covered
+pub fn covered_box(a: ScreenVertex, b: ScreenVertex, c: ScreenVertex, within: PixelBox) -> Bounds
     ensures { λ r. ⌜ r ≡ coveredOf a b c within ⌝ }
 {
     box_of(
@@ -149,7 +146,7 @@ fn setup_screen(
     if screen::is_discarded(cull, screen::is_front(front_face, area)) {
         return Setup::Nothing;
     }
-    let Covered::Pixels(pixels) = covered_box(a, b, c, within) else {
+    let Bounds::Box { x0, y0, x1, y1 } = covered_box(a, b, c, within) else {
         return Setup::Nothing;
     };
     Setup::Draws(Raster {
@@ -157,7 +154,7 @@ fn setup_screen(
         b,
         c,
         inv_area: 1.0 / area,
-        pixels,
+        pixels: PixelBox { x0, y0, x1, y1 },
     })
 }
 

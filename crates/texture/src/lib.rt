@@ -148,7 +148,8 @@ fn define_record(texture: Texture, k: usize, m: MipLevel) -> Texture
     }
 }
 
-fn copy_in(store: &mut [u8], place: usize, src: &[u8])
+// The bytes of src, put into the store from `place` on.
+pub fn copy_in(store: &mut [u8], place: usize, src: &[u8])
     requires { ⌜ place + length (now src) ≤ length (now store) ⌝ }
     ensures { λ _. ⌜ now (store .exit) ≡ paste (now (store .entry)) place (now (src .entry)) (length (now (src .entry))) ⌝ }
 {

@@ -1,2 +1,3 @@
 // The C interface: docs/INTERFACE.md. Answers are the numbers of document 01; 0 is done.
+mod decode;
 mod target;

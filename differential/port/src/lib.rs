@@ -3,3 +3,4 @@
 pub mod floats;
 pub mod settings;
 pub mod target;
+pub mod sampler;

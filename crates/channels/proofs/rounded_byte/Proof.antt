@@ -1,13 +1,17 @@
-use mathlib.Core.Path.{sym, subst}
+use mathlib.Core.Path.{refl, sym, subst}
 use mathlib.Core.Logic.{⊎-elim}
 use lib.Dec.{T}
-use lib.Ieee.{ofBits}
+use lib.Ieee.{ofBits, lt}
 use native.Mathlib.Omega.{arith}
 use Rattle.lists.proofs.Choice.{yes, no}
 use Rattle.channels.proofs.Rounded.{doubled-number, doubled-byte, small}
 use borrow.Author.Needs.{needs}
 use Rattle.channels.proofs.rounded_byte.Statement.{statement}
 use Rattle.channels.proofs.rounded_byte.Tie as tie
+
+held-requires : tie.Need-held-requires
+unfolding ofBits lt
+held-requires c κs = refl
 
 float-to-bits-result : tie.Need-float-to-bits-result
 unfolding ofBits
@@ -27,4 +31,4 @@ returns c = doubled-byte _ (c .before .before .before .args .x) (c .before .if1 
 
 pub rounded-byte-spec : {M : Type 1} → statement M
 rounded-byte-spec =
-    tie.close (tie.spec (λ c κs. search needs) float-to-bits-result add-result (λ c. search needs) cast-result returns)
+    tie.close (tie.spec held-requires float-to-bits-result add-result (λ c. search needs) cast-result returns)

@@ -1,11 +1,16 @@
+use mathlib.Core.Path.{refl}
 use mathlib.Core.Logic.{⊎-elim}
-use lib.Ieee.{ofBits}
+use lib.Ieee.{ofBits, lt}
 use native.Mathlib.Omega.{arith}
 use Rattle.lists.proofs.Choice.{yes, no}
 use Rattle.channels.proofs.Scaled.{scaled-number, scaled-byte}
 use borrow.Author.Needs.{needs}
 use Rattle.channels.proofs.to_byte.Statement.{statement}
 use Rattle.channels.proofs.to_byte.Tie as tie
+
+held-requires : tie.Need-held-requires
+unfolding ofBits lt
+held-requires c κs = refl
 
 float-to-bits-result : tie.Need-float-to-bits-result
 unfolding ofBits
@@ -21,4 +26,4 @@ returns c = scaled-byte _ _ _ (c .before .before .held .ensures) (⊎-elim (λ w
 
 pub to-byte-spec : {M : Type 1} → statement M
 to-byte-spec =
-    tie.close (tie.spec (λ c κs. search needs) float-to-bits-result add-result (λ c. search needs) returns)
+    tie.close (tie.spec held-requires float-to-bits-result add-result (λ c. search needs) returns)

@@ -10,14 +10,14 @@ int-to-float-scaled c = side-fits _ (c .before .pre .1)
 
 returns : tie.Need-returns
 unfolding wrapCoord
-returns c = c .rem-euclid .ensures ∙ rw (c .before .saturating-i64 .ensures, c .before .before .before .before .floor .ensures, c .before .before .enum-told .given .1)
+returns c = c .rem-euclid .ensures ∙ rw (c .before .before .before .floored .ensures .whole, c .before .enum-told .given .1)
 
 returns-2 : tie.Need-returns-2
 unfolding wrapCoord
-returns-2 c = c .edge-coord .ensures ∙ rw (c .before .before .before .floor .ensures, c .before .enum-told2 .given .1)
+returns-2 c = c .edge-coord .ensures ∙ rw (c .before .before .before .floored .ensures .low, c .before .enum-told2 .given .1)
 
 pub wrap-coord-spec : {M : Type 1} → statement M
 wrap-coord-spec =
     tie.close
     (tie.spec
-    int-to-float-scaled (λ c κs. search needs) (λ c. search needs) (λ c κs. search needs) (λ c κs. search needs) (λ c. search needs) (λ c κs. search needs) returns returns-2)
+    int-to-float-scaled (λ c κs. search needs) (λ c. search needs) (λ c κs. search needs) (λ c. search needs) (λ c κs. search needs) returns returns-2)

@@ -2,13 +2,11 @@ use mathlib.Core.Path.{refl}
 use Rattle.gradients.specs.Gradients.{slopesX}
 use Rattle.gradients.proofs.barycentric_dx.Statement.{statement}
 use Rattle.gradients.proofs.barycentric_dx.Tie as tie
-use Rattle.gradients.proofs.barycentric_dx.Reads as reads
-use Rattle.gradients.proofs.barycentric_dx.Lts as lts
 
--- src/lib.rt:40:1
 returns : tie.Need-returns
 unfolding slopesX
 returns c = refl
 
 pub barycentric-dx-spec : {M : Type 1} → statement M
-barycentric-dx-spec = tie.close (tie.spec returns)
+barycentric-dx-spec = tie.close (tie.spec
+    returns)

@@ -2,13 +2,11 @@ use mathlib.Core.Path.{refl}
 use Rattle.gradients.specs.Gradients.{slopeOf}
 use Rattle.gradients.proofs.slope.Statement.{statement}
 use Rattle.gradients.proofs.slope.Tie as tie
-use Rattle.gradients.proofs.slope.Reads as reads
-use Rattle.gradients.proofs.slope.Lts as lts
 
--- src/lib.rt:75:1
 returns : tie.Need-returns
 unfolding slopeOf
 returns c = refl
 
 pub slope-spec : {M : Type 1} → statement M
-slope-spec = tie.close (tie.spec returns)
+slope-spec = tie.close (tie.spec
+    returns)

@@ -2,13 +2,11 @@ use mathlib.Core.Path.{refl}
 use Rattle.screen.specs.Screen.{xOf}
 use Rattle.screen.proofs.screen_x.Statement.{statement}
 use Rattle.screen.proofs.screen_x.Tie as tie
-use Rattle.screen.proofs.screen_x.Reads as reads
-use Rattle.screen.proofs.screen_x.Lts as lts
 
--- src/lib.rt:68:1
 returns : tie.Need-returns
 unfolding xOf
 returns c = refl
 
 pub screen-x-spec : {M : Type 1} → statement M
-screen-x-spec = tie.close (tie.spec returns)
+screen-x-spec = tie.close (tie.spec
+    returns)

@@ -13,4 +13,5 @@ parts! {
     floats,
     settings,
     target,
+    sampling,
 }

@@ -1,0 +1,16 @@
+use mathlib.Core.Path.{_≡_, refl, sym, ap, _∙_}
+use Rattle.blocks.specs.Blocks.{dxt1Alpha}
+use borrow.Author.Needs.{needs}
+use Rattle.blocks.proofs.dxt1_alpha_block.Statement.{statement}
+use Rattle.blocks.proofs.dxt1_alpha_block.Tie as tie
+
+returns : tie.Need-returns
+unfolding dxt1Alpha
+returns c = c .dxt1-alphas .ensures ∙ rw (c .before .before .before .half .ensures .0, c .before .before .half2 .ensures .0, c .before .four-bytes .ensures)
+
+pub dxt1-alpha-block-spec : {M : Type 1} → statement M
+dxt1-alpha-block-spec =
+    tie.close
+    (tie.spec
+    (λ c κs. search needs) (λ c. search needs) (λ c κs. search needs) (λ c. search needs) (λ c κs. search needs)
+    (λ c κs. search needs) returns)

@@ -1,0 +1,15 @@
+use Rattle.blocks.specs.Blocks.{dxt1}
+use borrow.Author.Needs.{needs}
+use Rattle.blocks.proofs.dxt1_rgb_block.Statement.{statement}
+use Rattle.blocks.proofs.dxt1_rgb_block.Tie as tie
+
+returns : tie.Need-returns
+unfolding dxt1
+returns c = cc
+
+pub dxt1-rgb-block-spec : {M : Type 1} → statement M
+dxt1-rgb-block-spec =
+    tie.close
+    (tie.spec
+    (λ c κs. search needs) (λ c. search needs) (λ c κs. search needs) (λ c κs. search needs) (λ c. search needs)
+    (λ c κs. search needs) (λ c κs. search needs) returns)

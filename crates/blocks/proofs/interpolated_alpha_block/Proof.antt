@@ -1,0 +1,20 @@
+use mathlib.Core.Path.{_≡_, refl, sym, ap, _∙_}
+use Rattle.blocks.specs.Blocks.{interpolatedAlpha}
+use Rattle.blocks.proofs.Laws.{three-bits}
+use borrow.Author.Needs.{needs}
+use Rattle.blocks.proofs.interpolated_alpha_block.Statement.{statement}
+use Rattle.blocks.proofs.interpolated_alpha_block.Tie as tie
+
+chosen-alphas-requires : tie.Need-chosen-alphas-requires
+chosen-alphas-requires c κs = rw (c .alpha-selectors .ensures) (three-bits _ _)
+
+returns : tie.Need-returns
+unfolding interpolatedAlpha
+returns c = c .chosen-alphas .ensures ∙ rw (c .before .before .alpha-palette .ensures, c .before .alpha-selectors .ensures)
+
+pub interpolated-alpha-block-spec : {M : Type 1} → statement M
+interpolated-alpha-block-spec =
+    tie.close
+    (tie.spec
+    (λ c. search needs) (λ c. search needs) (λ c. search needs) (λ c κs. search needs) (λ c. search needs)
+    (λ c κs. search needs) chosen-alphas-requires returns)

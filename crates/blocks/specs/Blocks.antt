@@ -1,0 +1,176 @@
+-- Blocks of four by four texels: the colours and the alphas of a block whose bytes stand in s from `at` on, row by row.
+use mathlib.Core.Bool.{Bool, true, false, cond}
+use mathlib.Core.List.{List, [], _∷_, _++_}
+use Prim.Native.Nat.{ℕ, _+_, _-_, _*_, _/_, _%_, _^_, _<_}
+use lib.Dec.{eqb, ltb}
+use lib.ListN.{getD}
+use Rattle.lists.specs.Lists.{tab}
+use Rattle.texels.specs.Texels.{expand4, expand5, expand6, half}
+use Rattle.blocks.specs.declared.Block.{Block}
+use Rattle.blocks.specs.declared.Block.the-variants.{Dxt1Rgb, Dxt1Rgba, AtcRgb, AtcExplicit, AtcInterpolated}
+
+-- document 01: divisions round down. k n-ths of the way from a to b
+abbrev pub mixed : ℕ → ℕ → ℕ → ℕ → ℕ
+mixed k n a b = ((n - k) * a + k * b) / n
+
+-- the same for each of three channels
+abbrev pub mixed3 : ℕ → ℕ → List ℕ → List ℕ → List ℕ
+mixed3 k n a b =
+    mixed k n (getD a 0 0) (getD b 0 0)
+    ∷ mixed k n (getD a 1 0) (getD b 1 0)
+    ∷ mixed k n (getD a 2 0) (getD b 2 0)
+    ∷ []
+
+-- EXT_texture_compression_s3tc: an endpoint is a 5-6-5 colour
+abbrev pub rgb565 : ℕ → List ℕ
+rgb565 c = expand5 (c / 2048) ∷ expand6 (c / 32) ∷ expand5 c ∷ []
+
+-- texture.rs, atc_rgb_block: the first endpoint is 5-5-5, its top bit the mode
+abbrev pub rgb555 : ℕ → List ℕ
+rgb555 c = expand5 (c / 1024) ∷ expand5 (c / 32) ∷ expand5 c ∷ []
+
+abbrev pub black : List ℕ
+black = 0 ∷ 0 ∷ 0 ∷ []
+
+-- EXT_texture_compression_s3tc, RGB_S3TC_DXT1: color0 > color1 has two colours between, else there is the mean and black
+unfoldable pub dxt1Palette : ℕ → ℕ → List (List ℕ)
+dxt1Palette c0 c1 =
+    cond (ltb c1 c0)
+    (rgb565 c0
+    ∷ rgb565 c1
+    ∷ mixed3 1 3 (rgb565 c0) (rgb565 c1)
+    ∷ mixed3 2 3 (rgb565 c0) (rgb565 c1)
+    ∷ [])
+    (rgb565 c0 ∷ rgb565 c1 ∷ mixed3 1 2 (rgb565 c0) (rgb565 c1) ∷ black ∷ [])
+
+-- texture.rs, atc_rgb_block, mode 1: a less a quarter of b, at least 0
+abbrev pub lessQuarter : ℕ → ℕ → ℕ
+lessQuarter a b = a - b / 4
+
+abbrev pub lessQuarter3 : List ℕ → List ℕ → List ℕ
+lessQuarter3 a b =
+    lessQuarter (getD a 0 0) (getD b 0 0)
+    ∷ lessQuarter (getD a 1 0) (getD b 1 0)
+    ∷ lessQuarter (getD a 2 0) (getD b 2 0)
+    ∷ []
+
+-- texture.rs, atc_rgb_block: mode 0 has two colours between, mode 1 black and the first colour less a quarter
+unfoldable pub atcPalette : ℕ → ℕ → List (List ℕ)
+atcPalette c0 c1 =
+    cond (ltb c0 32768)
+    (rgb555 c0
+    ∷ mixed3 3 8 (rgb555 c0) (rgb565 c1)
+    ∷ mixed3 5 8 (rgb555 c0) (rgb565 c1)
+    ∷ rgb565 c1
+    ∷ [])
+    (black ∷ lessQuarter3 (rgb555 c0) (rgb565 c1) ∷ rgb555 c0 ∷ rgb565 c1 ∷ [])
+
+-- EXT_texture_compression_s3tc: the i-th of a run of selectors of k bits, the lowest bits first
+abbrev pub selector : ℕ → ℕ → ℕ → ℕ
+selector k bits i = bits / 2 ^ (k * i) % 2 ^ k
+
+-- four bytes and six, the lowest first
+abbrev pub word : List ℕ → ℕ → ℕ
+word s at = half s at + half s (at + 2) * 65536
+
+abbrev pub sixBytes : List ℕ → ℕ → ℕ
+sixBytes s at = word s at + half s (at + 4) * 4294967296
+
+-- sixteen texels chosen from a palette by selectors of two bits
+unfoldable pub chosen : List (List ℕ) → ℕ → List (List ℕ)
+chosen palette bits = tab 16 (λ i. getD palette (selector 2 bits i) [])
+
+-- EXT_texture_compression_s3tc, RGB_S3TC_DXT1
+unfoldable pub dxt1 : List ℕ → ℕ → List (List ℕ)
+dxt1 s at = chosen (dxt1Palette (half s at) (half s (at + 2))) (word s (at + 4))
+
+-- texture.rs, atc_rgb_block
+unfoldable pub atc : List ℕ → ℕ → List (List ℕ)
+atc s at = chosen (atcPalette (half s at) (half s (at + 2))) (word s (at + 4))
+
+-- document 01, Corners: alpha is 0 exactly if c0 <= c1 and the selector is 3
+unfoldable pub dxt1AlphaOf : ℕ → ℕ → ℕ → ℕ
+dxt1AlphaOf c0 c1 sel = cond (ltb c1 c0) 255 (cond (eqb sel 3) 0 255)
+
+unfoldable pub dxt1Alpha : List ℕ → ℕ → List ℕ
+dxt1Alpha s at = tab 16 (λ i. dxt1AlphaOf (half s at) (half s (at + 2)) (selector 2 (word s (at + 4)) i))
+
+-- texture.rs, decode_compressed_to_rgba, GL_ATC_RGBA_EXPLICIT_ALPHA_AMD: four bits a texel, the low half of a byte first
+unfoldable pub explicitAlpha : List ℕ → ℕ → List ℕ
+explicitAlpha s at = tab 16 (λ i. expand4 (getD s (at + i / 2) 0 / 2 ^ (4 * (i % 2))))
+
+-- texture.rs, interpolated_alpha_block: a0 > a1 has six alphas between, else there are four, 0 and 255
+unfoldable pub alphaPalette : ℕ → ℕ → List ℕ
+alphaPalette a0 a1 =
+    cond (ltb a1 a0)
+    (a0
+    ∷ a1
+    ∷ mixed 1 7 a0 a1
+    ∷ mixed 2 7 a0 a1
+    ∷ mixed 3 7 a0 a1
+    ∷ mixed 4 7 a0 a1
+    ∷ mixed 5 7 a0 a1
+    ∷ mixed 6 7 a0 a1
+    ∷ [])
+    (a0 ∷ a1 ∷ mixed 1 5 a0 a1 ∷ mixed 2 5 a0 a1 ∷ mixed 3 5 a0 a1 ∷ mixed 4 5 a0 a1 ∷ 0 ∷ 255 ∷ [])
+
+-- texture.rs, interpolated_alpha_block: sixteen selectors of three bits in six bytes
+unfoldable pub alphaSelectors : List ℕ → ℕ → List ℕ
+alphaSelectors s at = tab 16 (selector 3 (sixBytes s at))
+
+-- texture.rs, interpolated_alpha_block
+unfoldable pub interpolatedAlpha : List ℕ → ℕ → List ℕ
+interpolatedAlpha s at =
+    tab 16 (λ i. getD (alphaPalette (getD s at 0) (getD s (at + 1) 0)) (getD (alphaSelectors s (at + 2)) i 0) 0)
+
+-- what the choice from eight alphas asks of its selectors
+abbrev pub ThreeBits : List ℕ → Type 0
+ThreeBits l = (i : ℕ) → getD l i 0 < 8
+
+-- texture.rs, decode_compressed_to_rgba: alpha of a format that has none
+unfoldable pub opaque : List ℕ
+opaque = tab 16 (λ i. 255)
+
+-- texture.rs, compressed_image_size: the bytes of a block
+abbrev pub blockBytes : Block → ℕ
+blockBytes Dxt1Rgb = 8
+blockBytes Dxt1Rgba = 8
+blockBytes AtcRgb = 8
+blockBytes AtcExplicit = 16
+blockBytes AtcInterpolated = 16
+
+-- texture.rs, decode_compressed_to_rgba: a block of sixteen bytes has its alphas first
+abbrev pub alphaBytes : Block → ℕ
+alphaBytes Dxt1Rgb = 0
+alphaBytes Dxt1Rgba = 0
+alphaBytes AtcRgb = 0
+alphaBytes AtcExplicit = 8
+alphaBytes AtcInterpolated = 8
+
+abbrev pub isDxt1 : Block → Bool
+isDxt1 Dxt1Rgb = true
+isDxt1 Dxt1Rgba = true
+isDxt1 AtcRgb = false
+isDxt1 AtcExplicit = false
+isDxt1 AtcInterpolated = false
+
+abbrev pub blockRgb : Block → List ℕ → ℕ → List (List ℕ)
+blockRgb b s at = cond (isDxt1 b) (dxt1 s (at + alphaBytes b)) (atc s (at + alphaBytes b))
+
+-- texture.rs, decode_compressed_to_rgba: both DXT1 codes have the same alphas
+abbrev pub blockAlpha : Block → List ℕ → ℕ → List ℕ
+blockAlpha Dxt1Rgb s at = dxt1Alpha s at
+blockAlpha Dxt1Rgba s at = dxt1Alpha s at
+blockAlpha AtcRgb s at = opaque
+blockAlpha AtcExplicit s at = explicitAlpha s at
+blockAlpha AtcInterpolated s at = interpolatedAlpha s at
+
+-- a texel of a block: its colour, then its alpha
+abbrev pub texelOf : List ℕ → ℕ → List ℕ
+texelOf c alpha = getD c 0 0 ∷ getD c 1 0 ∷ getD c 2 0 ∷ alpha ∷ []
+
+abbrev pub texelFrom : List (List ℕ) → List ℕ → ℕ → List ℕ
+texelFrom rgb alpha i = texelOf (getD rgb i []) (getD alpha i 0)
+
+unfoldable pub blockTexel : Block → List ℕ → ℕ → ℕ → List ℕ
+blockTexel b s at i = texelFrom (blockRgb b s at) (blockAlpha b s at) i

@@ -1,0 +1,325 @@
+// Blocks of four by four texels: DXT1 and ATC colours, explicit and interpolated alphas (texture.rs).
+use texels::*;
+ghost use mathlib.Core.Path.{_≡_};
+ghost use Prim.Native.Nat.{_+_, _-_, _*_, _/_, _%_, _^_, _≤_, _<_};
+ghost use lib.ListN.{length, getD};
+ghost use Rattle.texels.specs.Texels.{half};
+ghost use Rattle.lists.specs.Lists.{tab};
+ghost use Rattle.blocks.specs.Blocks.{mixed, mixed3, rgb565, rgb555, dxt1Palette, lessQuarter, lessQuarter3, ThreeBits, atcPalette, selector, word, sixBytes, chosen, dxt1, atc, dxt1AlphaOf, dxt1Alpha, explicitAlpha, alphaPalette, alphaSelectors, interpolatedAlpha, opaque, blockBytes, isDxt1, alphaBytes, blockRgb, blockAlpha};
+
+// The formats whose images are made of blocks.
+pub enum Block {
+    Dxt1Rgb,
+    Dxt1Rgba,
+    AtcRgb,
+    AtcExplicit,
+    AtcInterpolated,
+}
+
+// k n-ths of the way from a to b, rounded down.
+fn mix(k: u32, n: u32, a: u8, b: u8) -> u8
+    requires { ⌜ (0 < n) × (n ≤ 8) × (k ≤ n) ⌝ }
+    ensures { λ r. ⌜ r ≡ mixed k n a b ⌝ }
+{
+    (((n - k) * wide(a) + k * wide(b)) / n) as u8
+}
+
+fn mix3(k: u32, n: u32, a: [u8; 3], b: [u8; 3]) -> [u8; 3]
+    requires { ⌜ (0 < n) × (n ≤ 8) × (k ≤ n) ⌝ }
+    ensures { λ r. ⌜ r ≡ mixed3 k n a b ⌝ }
+{
+    [
+        mix(k, n, a[0], b[0]),
+        mix(k, n, a[1], b[1]),
+        mix(k, n, a[2], b[2]),
+    ]
+}
+
+fn colour_565(c: u32) -> [u8; 3]
+    ensures { λ r. ⌜ r ≡ rgb565 c ⌝ }
+{
+    [expand5(c / 2048), expand6(c / 32), expand5(c)]
+}
+
+fn colour_555(c: u32) -> [u8; 3]
+    ensures { λ r. ⌜ r ≡ rgb555 c ⌝ }
+{
+    [expand5(c / 1024), expand5(c / 32), expand5(c)]
+}
+
+fn dxt1_palette(c0: u32, c1: u32) -> [[u8; 3]; 4]
+    ensures { λ r. ⌜ r ≡ dxt1Palette c0 c1 ⌝ }
+{
+    let e0 = colour_565(c0);
+    let e1 = colour_565(c1);
+    if c0 > c1 {
+        [e0, e1, mix3(1, 3, e0, e1), mix3(2, 3, e0, e1)]
+    } else {
+        [e0, e1, mix3(1, 2, e0, e1), [0, 0, 0]]
+    }
+}
+
+// A channel less a quarter of another, at least 0.
+fn lowered(a: u8, b: u8) -> u8
+    ensures { λ r. ⌜ r ≡ lessQuarter a b ⌝ }
+{
+    let q = b / 4;
+    if a < q {
+        return 0;
+    }
+    a - q
+}
+
+fn lowered3(a: [u8; 3], b: [u8; 3]) -> [u8; 3]
+    ensures { λ r. ⌜ r ≡ lessQuarter3 a b ⌝ }
+{
+    [
+        lowered(a[0], b[0]),
+        lowered(a[1], b[1]),
+        lowered(a[2], b[2]),
+    ]
+}
+
+fn atc_palette(c0: u32, c1: u32) -> [[u8; 3]; 4]
+    ensures { λ r. ⌜ r ≡ atcPalette c0 c1 ⌝ }
+{
+    let e0 = colour_555(c0);
+    let e1 = colour_565(c1);
+    if c0 < 32768 {
+        [e0, mix3(3, 8, e0, e1), mix3(5, 8, e0, e1), e1]
+    } else {
+        [[0, 0, 0], lowered3(e0, e1), e0, e1]
+    }
+}
+
+fn four_bytes(s: &[u8], at: usize) -> u32
+    requires { ⌜ at + 4 ≤ length (now s) ⌝ }
+    ensures { λ r. ⌜ r ≡ word (now (s .entry)) at ⌝ }
+{
+    half(s, at) + half(s, at + 2) * 65536
+}
+
+// The i-th of sixteen selectors of two bits.
+fn selector2(bits: u32, i: usize) -> usize
+    requires { ⌜ i < 16 ⌝ }
+    ensures { λ r. ⌜ (r ≡ selector 2 bits i) × (r < 4) ⌝ }
+{
+    ((bits >> (2 * i)) % 4) as usize
+}
+
+fn chosen(palette: [[u8; 3]; 4], bits: u32) -> [[u8; 3]; 16]
+    ensures { λ r. ⌜ r ≡ chosen palette bits ⌝ }
+{
+    let mut out = [[0u8; 3]; 16];
+    for i in 0..16 {
+        let sel = selector2(bits, i);
+        out[i] = palette[sel];
+    }
+    out
+}
+
+pub fn dxt1_rgb_block(s: &[u8], at: usize) -> [[u8; 3]; 16]
+    requires { ⌜ at + 8 ≤ length (now s) ⌝ }
+    ensures { λ r. ⌜ r ≡ dxt1 (now (s .entry)) at ⌝ }
+{
+    let palette = dxt1_palette(half(s, at), half(s, at + 2));
+    chosen(palette, four_bytes(s, at + 4))
+}
+
+pub fn atc_rgb_block(s: &[u8], at: usize) -> [[u8; 3]; 16]
+    requires { ⌜ at + 8 ≤ length (now s) ⌝ }
+    ensures { λ r. ⌜ r ≡ atc (now (s .entry)) at ⌝ }
+{
+    let palette = atc_palette(half(s, at), half(s, at + 2));
+    chosen(palette, four_bytes(s, at + 4))
+}
+
+fn dxt1_alpha(c0: u32, c1: u32, sel: usize) -> u8
+    ensures { λ r. ⌜ r ≡ dxt1AlphaOf c0 c1 sel ⌝ }
+{
+    if c1 < c0 {
+        return 255;
+    }
+    if sel == 3 {
+        return 0;
+    }
+    255
+}
+
+fn dxt1_alphas(c0: u32, c1: u32, bits: u32) -> [u8; 16]
+    ensures { λ r. ⌜ r ≡ tab 16 (λ i. dxt1AlphaOf c0 c1 (selector 2 bits i)) ⌝ }
+{
+    let mut out = [0u8; 16];
+    for i in 0..16 {
+        out[i] = dxt1_alpha(c0, c1, selector2(bits, i));
+    }
+    out
+}
+
+pub fn dxt1_alpha_block(s: &[u8], at: usize) -> [u8; 16]
+    requires { ⌜ at + 8 ≤ length (now s) ⌝ }
+    ensures { λ r. ⌜ r ≡ dxt1Alpha (now (s .entry)) at ⌝ }
+{
+    dxt1_alphas(half(s, at), half(s, at + 2), four_bytes(s, at + 4))
+}
+
+// The low half of a byte is the first of its two.
+fn explicit_alpha(b: u8, i: usize) -> u8
+    ensures { λ r. ⌜ r ≡ Rattle.texels.specs.Texels.expand4 (b / 2 ^ (4 * (i % 2))) ⌝ }
+{
+    expand4(wide(b) >> (4 * (i % 2)))
+}
+
+pub fn explicit_alpha_block(s: &[u8], at: usize) -> [u8; 16]
+    requires { ⌜ at + 8 ≤ length (now s) ⌝ }
+    ensures { λ r. ⌜ r ≡ explicitAlpha (now (s .entry)) at ⌝ }
+{
+    let mut out = [0u8; 16];
+    for i in 0..16 {
+        out[i] = explicit_alpha(s[at + i / 2], i);
+    }
+    out
+}
+
+fn alpha_palette(a0: u8, a1: u8) -> [u8; 8]
+    ensures { λ r. ⌜ r ≡ alphaPalette a0 a1 ⌝ }
+{
+    if a0 > a1 {
+        [
+            a0,
+            a1,
+            mix(1, 7, a0, a1),
+            mix(2, 7, a0, a1),
+            mix(3, 7, a0, a1),
+            mix(4, 7, a0, a1),
+            mix(5, 7, a0, a1),
+            mix(6, 7, a0, a1),
+        ]
+    } else {
+        [
+            a0,
+            a1,
+            mix(1, 5, a0, a1),
+            mix(2, 5, a0, a1),
+            mix(3, 5, a0, a1),
+            mix(4, 5, a0, a1),
+            0,
+            255,
+        ]
+    }
+}
+
+fn six_bytes(s: &[u8], at: usize) -> u64
+    requires { ⌜ at + 6 ≤ length (now s) ⌝ }
+    ensures { λ r. ⌜ r ≡ sixBytes (now (s .entry)) at ⌝ }
+{
+    half(s, at) as u64 + half(s, at + 2) as u64 * 65536 + half(s, at + 4) as u64 * 4294967296
+}
+
+fn selector3(bits: u64, i: usize) -> u8
+    requires { ⌜ i < 16 ⌝ }
+    ensures { λ r. ⌜ r ≡ selector 3 bits i ⌝ }
+{
+    ((bits >> (3 * i)) % 8) as u8
+}
+
+// The one reader of an alpha block's sixteen selectors of three bits, from its six bytes.
+fn alpha_selectors(s: &[u8], at: usize) -> [u8; 16]
+    requires { ⌜ at + 6 ≤ length (now s) ⌝ }
+    ensures { λ r. ⌜ r ≡ alphaSelectors (now (s .entry)) at ⌝ }
+{
+    let bits = six_bytes(s, at);
+    let mut out = [0u8; 16];
+    for i in 0..16 {
+        out[i] = selector3(bits, i);
+    }
+    out
+}
+
+fn chosen_alphas(palette: [u8; 8], selectors: [u8; 16]) -> [u8; 16]
+    requires { ⌜ ThreeBits selectors ⌝ }
+    ensures { λ r. ⌜ r ≡ tab 16 (λ i. getD palette (getD selectors i 0) 0) ⌝ }
+{
+    let mut out = [0u8; 16];
+    for i in 0..16 {
+        let sel = selectors[i] as usize;
+        out[i] = palette[sel];
+    }
+    out
+}
+
+pub fn interpolated_alpha_block(s: &[u8], at: usize) -> [u8; 16]
+    requires { ⌜ at + 8 ≤ length (now s) ⌝ }
+    ensures { λ r. ⌜ r ≡ interpolatedAlpha (now (s .entry)) at ⌝ }
+{
+    chosen_alphas(alpha_palette(s[at], s[at + 1]), alpha_selectors(s, at + 2))
+}
+
+fn opaque_block() -> [u8; 16]
+    ensures { λ r. ⌜ r ≡ opaque ⌝ }
+{
+    [255u8; 16]
+}
+
+pub fn block_bytes(b: Block) -> usize
+    ensures { λ r. ⌜ r ≡ blockBytes b ⌝ }
+{
+    match b {
+        Block::Dxt1Rgb => 8,
+        Block::Dxt1Rgba => 8,
+        Block::AtcRgb => 8,
+        Block::AtcExplicit => 16,
+        Block::AtcInterpolated => 16,
+    }
+}
+
+fn is_dxt1(b: Block) -> bool
+    ensures { λ r. ⌜ r ≡ isDxt1 b ⌝ }
+{
+    match b {
+        Block::Dxt1Rgb => true,
+        Block::Dxt1Rgba => true,
+        Block::AtcRgb => false,
+        Block::AtcExplicit => false,
+        Block::AtcInterpolated => false,
+    }
+}
+
+// The bytes of a block before its colours.
+fn alpha_bytes(b: Block) -> usize
+    ensures { λ r. ⌜ (r ≡ alphaBytes b) × (r + 8 ≡ blockBytes b) ⌝ }
+{
+    match b {
+        Block::Dxt1Rgb => 0,
+        Block::Dxt1Rgba => 0,
+        Block::AtcRgb => 0,
+        Block::AtcExplicit => 8,
+        Block::AtcInterpolated => 8,
+    }
+}
+
+// Each colour decoder is called in one place, so that the compiler lays it into the walk.
+pub fn block_rgb(b: Block, s: &[u8], at: usize) -> [[u8; 3]; 16]
+    requires { ⌜ at + blockBytes b ≤ length (now s) ⌝ }
+    ensures { λ r. ⌜ r ≡ blockRgb b (now (s .entry)) at ⌝ }
+{
+    let from = at + alpha_bytes(b);
+    if is_dxt1(b) {
+        return dxt1_rgb_block(s, from);
+    }
+    atc_rgb_block(s, from)
+}
+
+// The alphas of a block, by its format.
+pub fn block_alpha(b: Block, s: &[u8], at: usize) -> [u8; 16]
+    requires { ⌜ at + blockBytes b ≤ length (now s) ⌝ }
+    ensures { λ r. ⌜ r ≡ blockAlpha b (now (s .entry)) at ⌝ }
+{
+    match b {
+        Block::Dxt1Rgb => dxt1_alpha_block(s, at),
+        Block::Dxt1Rgba => dxt1_alpha_block(s, at),
+        Block::AtcRgb => opaque_block(),
+        Block::AtcExplicit => explicit_alpha_block(s, at),
+        Block::AtcInterpolated => interpolated_alpha_block(s, at),
+    }
+}

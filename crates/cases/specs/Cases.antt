@@ -1,0 +1,65 @@
+-- The worked cases of document 01 that are proved, in one list.
+use mathlib.Core.Bool.{Bool, true, false, cond}
+use mathlib.Core.List.{List, [], _∷_}
+use Prim.Native.Nat.{ℕ, _*_}
+use lib.Dec.{eqb}
+use lib.IntN.{pos}
+use lib.ListN.{replicate}
+use Rattle.lists.specs.Lists.{tab, flat}
+use Rattle.texels.specs.Texels.{formatOf}
+use Rattle.texels.specs.Plain.{plainImage}
+use Rattle.blocks.specs.Blocks.{interpolatedAlpha}
+use Rattle.compressed.specs.Compressed.{compressedOf, sizeOf, compressedImage}
+use Rattle.levels.specs.declared.MipLevel.{MipLevel}
+use Rattle.levels.specs.Levels.{levelAt, absent, topOf}
+use Rattle.settings.specs.declared.Scissor.{Scissor}
+use Rattle.settings.specs.declared.Scissor.the-variants.{Within}
+use Rattle.scissor.specs.Scissor.{pixelIn}
+
+pub data Case : Type 0 where
+  -- a format, a type, a texel's bytes: its red, green, blue and alpha
+  texel : ℕ → ℕ → List ℕ → List ℕ → Case
+  -- a compressed format, a block's bytes: each of its sixteen texels
+  block : ℕ → List ℕ → List ℕ → Case
+  -- an alpha block's bytes: each of its sixteen alphas
+  alphas : List ℕ → ℕ → Case
+  -- a compressed format, width, height: the bytes of the image
+  size : ℕ → ℕ → ℕ → ℕ → Case
+  -- a target's width and height, a box: its pixels row by row, 1 in the box and 0 outside
+  inside : ℕ → ℕ → Scissor → List ℕ → Case
+  -- a texture's levels: the top level of the chain
+  top : List MipLevel → ℕ → Case
+
+abbrev pub same : List ℕ → List ℕ → Bool
+same [] [] = true
+same [] (y ∷ ys) = false
+same (x ∷ xs) [] = false
+same (x ∷ xs) (y ∷ ys) = cond (eqb x y) (same xs ys) false
+
+unfoldable pub holds : Case → Bool
+holds (texel format ty bytes want) = same (plainImage (formatOf format ty) 1 1 bytes) want
+holds (block format bytes want) = same (compressedImage (compressedOf format) 4 4 bytes) (flat 16 (λ i. want))
+holds (alphas bytes want) = same (interpolatedAlpha bytes 0) (replicate 16 want)
+holds (size format w h want) = eqb (sizeOf (compressedOf format) w h) want
+holds (inside w h s want) = same (tab (w * h) (λ p. cond (pixelIn w h s p) 1 0)) want
+holds (top l want) = eqb (topOf l) want
+
+unfoldable pub cases : List Case
+cases =
+    texel 0x1907 0x8363 (0x00 ∷ 0xF8 ∷ []) (255 ∷ 0 ∷ 0 ∷ 255 ∷ [])
+    ∷ texel 0x1908 0x8033 (0x34 ∷ 0x12 ∷ []) (17 ∷ 34 ∷ 51 ∷ 68 ∷ [])
+    ∷ texel 0x1908 0x8034 (0x01 ∷ 0x00 ∷ []) (0 ∷ 0 ∷ 0 ∷ 255 ∷ [])
+    ∷ block 0x83F0 (0x00 ∷ 0xF8 ∷ 0x1F ∷ 0x00 ∷ 0xAA ∷ 0xAA ∷ 0xAA ∷ 0xAA ∷ []) (170 ∷ 0 ∷ 85 ∷ 255 ∷ [])
+    ∷ block 0x83F1 (0x00 ∷ 0xF8 ∷ 0x1F ∷ 0x00 ∷ 0xAA ∷ 0xAA ∷ 0xAA ∷ 0xAA ∷ []) (170 ∷ 0 ∷ 85 ∷ 255 ∷ [])
+    ∷ block 0x83F0 (0x1F ∷ 0x00 ∷ 0x00 ∷ 0xF8 ∷ 0xFF ∷ 0xFF ∷ 0xFF ∷ 0xFF ∷ []) (0 ∷ 0 ∷ 0 ∷ 0 ∷ [])
+    ∷ block 0x83F1 (0x1F ∷ 0x00 ∷ 0x00 ∷ 0xF8 ∷ 0xFF ∷ 0xFF ∷ 0xFF ∷ 0xFF ∷ []) (0 ∷ 0 ∷ 0 ∷ 0 ∷ [])
+    ∷ block 0x8C92 (0x00 ∷ 0x7C ∷ 0x1F ∷ 0x00 ∷ 0x55 ∷ 0x55 ∷ 0x55 ∷ 0x55 ∷ []) (159 ∷ 0 ∷ 95 ∷ 255 ∷ [])
+    ∷ block 0x8C92 (0x00 ∷ 0xFC ∷ 0x00 ∷ 0xF8 ∷ 0x55 ∷ 0x55 ∷ 0x55 ∷ 0x55 ∷ []) (192 ∷ 0 ∷ 0 ∷ 255 ∷ [])
+    ∷ alphas (0xFF ∷ 0x00 ∷ 0x92 ∷ 0x24 ∷ 0x49 ∷ 0x92 ∷ 0x24 ∷ 0x49 ∷ []) 218
+    ∷ size 0x8B90 3 2 52
+    ∷ size 0x83F0 5 4 16
+    ∷ size 0x83F1 5 4 16
+    ∷ inside 4 4 (Within (record { x = pos 1; y = pos 0; width = pos 2; height = pos 1 }))
+        (0 ∷ 0 ∷ 0 ∷ 0 ∷ 0 ∷ 0 ∷ 0 ∷ 0 ∷ 0 ∷ 0 ∷ 0 ∷ 0 ∷ 0 ∷ 1 ∷ 1 ∷ 0 ∷ [])
+    ∷ top (levelAt 0 8 4 ∷ levelAt 128 4 2 ∷ levelAt 160 2 1 ∷ replicate 8 absent) 2
+    ∷ []

@@ -1,0 +1,9 @@
+pub mod Choices
+pub mod Clears
+pub mod Changes
+pub mod Settings
+pub mod Defines
+pub mod Patches
+pub mod Exact
+pub mod Draws
+pub mod Guests

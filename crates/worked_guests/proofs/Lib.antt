@@ -1,0 +1,5 @@
+pub mod Uses
+pub mod Opened
+pub mod Worked
+pub mod Needed
+pub mod OnePixel
