@@ -3,7 +3,7 @@
 # make record   the Rust's answers written anew to crates/replay_*
 
 # The crates that are exported for C and Rust to link.
-EXPORTED = probes
+EXPORTED = probes tilefringe
 
 .PHONY: test lib differential-check bench-check record
 

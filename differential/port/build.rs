@@ -2,7 +2,7 @@
 use std::path::PathBuf;
 
 /// The exported Rattle crates. Two archives link together.
-const ARCHIVES: [&str; 1] = ["probes"];
+const ARCHIVES: [&str; 2] = ["probes", "tilefringe"];
 
 fn main() {
     let here = PathBuf::from(std::env::var("CARGO_MANIFEST_DIR").unwrap());

@@ -14,4 +14,5 @@ macro_rules! groups {
 
 groups! {
     floats,
+    texels,
 }

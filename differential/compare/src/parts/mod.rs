@@ -11,4 +11,5 @@ macro_rules! parts {
 parts! {
     oracle,
     floats,
+    texels,
 }
