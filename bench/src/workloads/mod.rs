@@ -16,4 +16,5 @@ groups! {
     floats,
     target,
     sampling,
+    texels,
 }

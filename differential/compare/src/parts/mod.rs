@@ -15,4 +15,5 @@ parts! {
     settings,
     target,
     sampling,
+    texels,
 }

@@ -1,0 +1,457 @@
+//! Texel formats: plain, compressed and paletted decoding and the size query. The numbers of refused calls are document 01's.
+use crate::{same, shrink, Ctx, Part, Record, Rng, Tally};
+use oracle::texture as rust;
+use port::texels as port;
+
+pub const PART: Part = Part {
+    name: "texels",
+    about: "plain, compressed and paletted decoding, and the size query",
+    cases: 1_000_000,
+    run,
+    record: Some(record),
+};
+
+const FORMATS: [u32; 5] = [0x1906, 0x1907, 0x1908, 0x1909, 0x190A];
+const PACKED: [u32; 3] = [0x8363, 0x8033, 0x8034];
+const BYTE: u32 = 0x1401;
+const DXT1: [u32; 2] = [0x83F0, 0x83F1];
+const ATC: [u32; 3] = [0x8C92, 0x8C93, 0x87EE];
+const BLOCKS: [u32; 5] = [0x83F0, 0x83F1, 0x8C92, 0x8C93, 0x87EE];
+const PALETTES: [u32; 10] = [0x8B90, 0x8B91, 0x8B92, 0x8B93, 0x8B94, 0x8B95, 0x8B96, 0x8B97, 0x8B98, 0x8B99];
+/// Codes that are none of the above, or not in that place.
+const STRANGE: [u32; 12] = [0, 1, 0x1400, 0x1905, 0x190B, 0x83F2, 0x83F3, 0x8B8F, 0x8B9A, 0x8C91, 0xDEAD, u32::MAX];
+
+#[derive(Clone, Copy, Debug, PartialEq, Eq)]
+enum Op {
+    Plain,
+    Compressed,
+    Size,
+}
+
+const OPS: [(Op, &str); 3] = [(Op::Plain, "plain"), (Op::Compressed, "compressed"), (Op::Size, "size")];
+
+#[derive(Clone, Debug)]
+struct Call {
+    op: Op,
+    width: u32,
+    height: u32,
+    format: u32,
+    ty: u32,
+    data: Vec<u8>,
+    /// The length of the output.
+    out: usize,
+}
+
+/// What a call answers and leaves.
+#[derive(Clone, Debug, PartialEq, Eq)]
+struct Left {
+    number: u32,
+    size: usize,
+    out: Vec<u8>,
+}
+
+/// What stands in the output before a call.
+fn before(n: usize) -> Vec<u8> {
+    (0..n).map(|i| (i * 37 + 11) as u8).collect()
+}
+
+/// What stands in the size before a query.
+const SIZE_BEFORE: usize = 77;
+
+/// Document 01's answer, with the Rust's bytes. Where the Rust itself refuses, it must be 14 or 11.
+fn wanted(call: &Call) -> Left {
+    let Call { op, width, height, format, ty, ref data, out } = *call;
+    let large = width > 1024 || height > 1024;
+    let empty = width == 0 || height == 0;
+    let needed = 4 * width as usize * height as usize;
+    let refused = |number| Left { number, size: SIZE_BEFORE, out: before(out) };
+    let done = |image| Left { number: 0, size: SIZE_BEFORE, out: image };
+    match op {
+        Op::Plain => {
+            let Some(bytes) = rust::bytes_per_texel(format, ty) else { return refused(14) };
+            if large {
+                return refused(9);
+            }
+            let image = rust::decode_to_rgba(data, width, height, format, ty);
+            assert_eq!(image.is_none(), data.len() < needed / 4 * bytes);
+            match image {
+                None => refused(11),
+                Some(_) if out != needed => refused(15),
+                Some(image) => done(image),
+            }
+        }
+        Op::Compressed if large => refused(9),
+        Op::Compressed => {
+            let size = rust::compressed_image_size(format, width, height);
+            let image = rust::decode_compressed_to_rgba(data, width, height, format);
+            assert_eq!(image.is_none(), !empty && size.is_none_or(|n| data.len() < n));
+            match image {
+                None if size.is_none() => refused(14),
+                None => refused(11),
+                Some(_) if out != needed => refused(15),
+                Some(image) => done(image),
+            }
+        }
+        Op::Size if large => refused(9),
+        Op::Size => match rust::compressed_image_size(format, width, height) {
+            None => refused(14),
+            Some(size) => Left { number: 0, size, out: before(out) },
+        },
+    }
+}
+
+fn answered(call: &Call) -> Left {
+    let mut out = before(call.out);
+    let Call { width, height, format, ty, ref data, .. } = *call;
+    let (number, size) = match call.op {
+        Op::Plain => (port::decode_to_rgba(data, width, height, format, ty, &mut out), SIZE_BEFORE),
+        Op::Compressed => (port::decode_compressed_to_rgba(data, width, height, format, &mut out), SIZE_BEFORE),
+        Op::Size => port::compressed_image_size(format, width, height, SIZE_BEFORE),
+    };
+    Left { number, size, out }
+}
+
+/// The number that was answered, and what differs.
+fn check(call: &Call) -> (u32, Option<String>) {
+    let (rust, port) = (wanted(call), answered(call));
+    let words = if rust.number != port.number {
+        Some(format!("{} from the Rust and document 01, {} from the port", rust.number, port.number))
+    } else if rust.size != port.size {
+        Some(format!("size {} from the Rust, {} from the port", rust.size, port.size))
+    } else {
+        same::bytes("output", &rust.out, &port.out)
+    };
+    (rust.number, words)
+}
+
+fn smaller(call: &Call) -> Vec<Call> {
+    let mut list = Vec::new();
+    for n in shrink::number(i64::from(call.width)).into_iter().filter(|&n| n >= 0) {
+        list.push(Call { width: n as u32, ..call.clone() });
+    }
+    for n in shrink::number(i64::from(call.height)).into_iter().filter(|&n| n >= 0) {
+        list.push(Call { height: n as u32, ..call.clone() });
+    }
+    for n in shrink::number(call.data.len() as i64).into_iter().filter(|&n| n >= 0) {
+        list.push(Call { data: call.data[..n as usize].to_vec(), ..call.clone() });
+    }
+    for n in shrink::number(call.out as i64).into_iter().filter(|&n| n >= 0) {
+        list.push(Call { out: n as usize, ..call.clone() });
+    }
+    for i in (0..call.data.len()).filter(|&i| call.data[i] != 0) {
+        let mut data = call.data.clone();
+        data[i] = 0;
+        list.push(Call { data, ..call.clone() });
+    }
+    list
+}
+
+fn name(op: Op) -> &'static str {
+    OPS.iter().find(|(o, _)| *o == op).expect("every operation has a name").1
+}
+
+fn try_call(tally: &mut Tally, call: &Call) {
+    let number = tally.case(call, check, smaller);
+    tally.count(&format!("{} answered {number}", name(call.op)));
+    if number == 0 && call.op != Op::Size {
+        let (w, h) = (call.width, call.height);
+        if w == 0 || h == 0 {
+            tally.count("images with a zero side");
+        } else if call.op == Op::Compressed {
+            tally.count(&format!("images of {:04X}", call.format));
+            if w % 4 != 0 || h % 4 != 0 {
+                tally.count("compressed images with overhang or odd rows");
+            }
+        } else if PACKED.contains(&call.ty) {
+            tally.count(&format!("images of type {:04X}", call.ty));
+            if !FORMATS.contains(&call.format) {
+                tally.count("packed images under an unknown format");
+            }
+        } else {
+            tally.count(&format!("images of format {:04X}", call.format));
+        }
+    }
+}
+
+fn side(rng: &mut Rng, most: i64) -> u32 {
+    match rng.below(40) {
+        0 => 0,
+        1..=20 => rng.between(1, 9.min(most)) as u32,
+        21..=37 => rng.between(1, most) as u32,
+        38 => rng.between(1023, 1026) as u32,
+        _ => rng.pick(&[1025, 2048, 65_536, 1 << 31, u32::MAX]),
+    }
+}
+
+/// A length about n: n itself most often, a little or a lot less or more.
+fn about(rng: &mut Rng, n: usize) -> usize {
+    match rng.below(20) {
+        0 => n.saturating_sub(1),
+        1 => rng.below(n as u64 + 1) as usize,
+        2 => n + 1,
+        3 => n + rng.below(40) as usize,
+        4 => 0,
+        _ => n,
+    }
+}
+
+fn call(rng: &mut Rng, most: i64) -> Call {
+    let op = OPS[[0, 0, 0, 1, 1, 1, 1, 2][rng.below(8) as usize]].0;
+    let (mut width, mut height) = (side(rng, most), side(rng, most));
+    // A long side goes with a short one, so that no image is large.
+    if width > 1000 && width < 1025 {
+        height = rng.below(5) as u32;
+    } else if height > 1000 && height < 1025 {
+        width = rng.below(5) as u32;
+    }
+    let strange = rng.chance(1, 12);
+    let (format, ty) = match op {
+        Op::Plain if strange => (rng.pick(&STRANGE), rng.pick(&[BYTE, 0x1400, 0x8362, 0xDEAD])),
+        Op::Plain if rng.bool() => (rng.pick(&FORMATS), BYTE),
+        Op::Plain if rng.chance(1, 4) => (rng.pick(&STRANGE), rng.pick(&PACKED)),
+        Op::Plain => (rng.pick(&FORMATS), rng.pick(&PACKED)),
+        _ if strange => (rng.pick(&STRANGE), 0),
+        _ if rng.chance(3, 5) => (rng.pick(&BLOCKS), 0),
+        _ => (rng.pick(&PALETTES), 0),
+    };
+    let small = width <= 1024 && height <= 1024;
+    let texels = if small { width as usize * height as usize } else { rng.below(16) as usize };
+    let needed = match op {
+        Op::Plain => texels * rust::bytes_per_texel(format, ty).unwrap_or(2),
+        _ if small => rust::compressed_image_size(format, width, height).unwrap_or(16),
+        _ => rng.below(64) as usize,
+    };
+    let n = if op == Op::Size { 0 } else { about(rng, needed) };
+    let mut data = vec![0; n];
+    rng.fill(&mut data);
+    // Equal endpoints, and selectors that are all the same.
+    if BLOCKS.contains(&format) && n >= 8 && rng.chance(1, 6) {
+        let from = if n >= 16 && !DXT1.contains(&format) && format != ATC[0] { 8 } else { 0 };
+        data.copy_within(from..from + 2, from + 2);
+    }
+    let out = if op == Op::Size { 0 } else { about(rng, texels * 4) };
+    Call { op, width, height, format, ty, data, out }
+}
+
+/// All values of each packed type, in an image of 256 by 256, plain and as the entries of palettes.
+fn every_packed_texel(ctx: &mut Ctx) {
+    let data: Vec<u8> = (0..=u16::MAX).flat_map(u16::to_le_bytes).collect();
+    for ty in PACKED {
+        try_call(&mut ctx.tally, &Call { op: Op::Plain, width: 256, height: 256, format: 0x1908, ty, data: data.clone(), out: 262_144 });
+        ctx.tally.add("packed texels", 65_536);
+    }
+    for format in PALETTES {
+        for page in 0..256u32 {
+            let mut data: Vec<u8> = (0..1024).map(|i| (i * 7 + page * 13) as u8).collect();
+            data.truncate(rust::compressed_image_size(format, 0, 0).expect("a palette has a size"));
+            data.extend((0..=255u8).map(|i| i.wrapping_add(page as u8)));
+            try_call(&mut ctx.tally, &Call { op: Op::Compressed, width: 16, height: 16, format, ty: 0, data, out: 1024 });
+        }
+    }
+    for v in 0..=u16::MAX {
+        let p = rust::probe::expand4(v);
+        let q = rust::probe::expand5(v);
+        let r = rust::probe::expand6(v);
+        ctx.tally.cases += 1;
+        let mut out = [0; 8];
+        let pair = [v.to_le_bytes(), v.wrapping_mul(32).to_le_bytes()].concat();
+        port::decode_to_rgba(&pair[..2], 1, 1, 0x1908, 0x8033, &mut out[..4]);
+        let four = out[3];
+        port::decode_to_rgba(&pair, 2, 1, 0x1907, 0x8363, &mut out);
+        if (p, q, r) != (four, out[2], out[5]) {
+            ctx.tally.difference(format!("expand of {v:04x}: {:?} from the Rust, {:?} from the port", (p, q, r), (four, out[2], out[5])));
+        }
+    }
+}
+
+/// The sixteen texels of a block, as the port decodes an image of 4 by 4.
+fn texels_of(format: u32, block: &[u8]) -> [[u8; 4]; 16] {
+    let mut out = [0; 64];
+    let number = port::decode_compressed_to_rgba(block, 4, 4, format, &mut out);
+    assert_eq!(number, 0);
+    std::array::from_fn(|i| std::array::from_fn(|c| out[i * 4 + c]))
+}
+
+fn joined(rgb: [[u8; 3]; 16], alpha: [u8; 16]) -> [[u8; 4]; 16] {
+    std::array::from_fn(|i| [rgb[i][0], rgb[i][1], rgb[i][2], alpha[i]])
+}
+
+/// One block of eight bytes under each block format, against the Rust's own block decoders.
+fn try_block(tally: &mut Tally, block: [u8; 8], alphas: [u8; 8]) {
+    let difference = |&(block, alphas): &([u8; 8], [u8; 8])| {
+        let (rgb, alpha) = rust::probe::dxt1_rgb_block(&block);
+        let atc = rust::probe::atc_rgb_block(&block);
+        let both = [alphas, block].concat();
+        let explicit: [u8; 16] = std::array::from_fn(|i| rust::probe::expand4(u16::from(alphas[i / 2] >> (4 * (i % 2)))));
+        let wanted = [
+            (DXT1[0], texels_of(DXT1[0], &block), joined(rgb, alpha)),
+            (DXT1[1], texels_of(DXT1[1], &block), joined(rgb, alpha)),
+            (ATC[0], texels_of(ATC[0], &block), joined(atc, [255; 16])),
+            (ATC[1], texels_of(ATC[1], &both), joined(atc, explicit)),
+            (ATC[2], texels_of(ATC[2], &both), joined(atc, rust::probe::interpolated_alpha_block(&alphas))),
+        ];
+        let wrong = wanted.into_iter().find(|(_, port, rust)| port != rust);
+        ((), wrong.map(|(format, port, rust)| format!("a block of {format:04X}: {rust:?} from the Rust, {port:?} from the port")))
+    };
+    tally.case(&(block, alphas), difference, |_| Vec::new());
+}
+
+/// Every pair of ends of an alpha block; endpoints of every order; any block.
+fn blocks(ctx: &mut Ctx) {
+    // Selectors 0 to 7, twice.
+    let selectors = [0x88, 0xC6, 0xFA, 0x88, 0xC6, 0xFA];
+    ctx.spread("alpha ends", 65_536, 1 << 12, |tally, rng, range| {
+        for n in range {
+            let [a, b] = (n as u16).to_le_bytes();
+            let [c, d, e, f, g, h] = selectors;
+            let mut block = [0; 8];
+            rng.fill(&mut block);
+            try_block(tally, block, [a, b, c, d, e, f, g, h]);
+            tally.count("alpha ends");
+        }
+    });
+    let ends: Vec<u16> = (0..16).map(|i| 1 << i).chain((0..16).map(|i| u16::MAX << i)).chain([0, 0x7FFF, 0x8000, 0x7BEF, 0xF81F, 0x07E0, 0xFFFE]).collect();
+    let n = ends.len() as u64;
+    ctx.spread("endpoints", n * n, 64, |tally, rng, range| {
+        for i in range {
+            let (c0, c1) = (ends[(i / n) as usize], ends[(i % n) as usize]);
+            let mut alphas = [0; 8];
+            rng.fill(&mut alphas);
+            let [a, b] = c0.to_le_bytes();
+            let [c, d] = c1.to_le_bytes();
+            // Selectors 0 to 3 in every row, in either order.
+            try_block(tally, [a, b, c, d, 0xE4, 0x1B, 0xE4, 0x1B], alphas);
+            tally.count(if c0 < c1 { "endpoints rising" } else if c0 == c1 { "endpoints equal" } else { "endpoints falling" });
+            tally.count(if c0 < 0x8000 { "ATC mode 0" } else { "ATC mode 1" });
+        }
+    });
+    let random = ctx.cases / 4;
+    ctx.spread("blocks", random, 1 << 12, |tally, rng, range| {
+        for _ in range {
+            let (mut block, mut alphas) = ([0; 8], [0; 8]);
+            rng.fill(&mut block);
+            rng.fill(&mut alphas);
+            if rng.chance(1, 4) {
+                block.copy_within(0..2, 2);
+            }
+            try_block(tally, block, alphas);
+            tally.count("random blocks");
+        }
+    });
+    for name in ["endpoints rising", "endpoints falling", "ATC mode 0", "ATC mode 1"] {
+        ctx.floor(name, 200);
+    }
+    ctx.floor("endpoints equal", 30);
+    ctx.floor("alpha ends", 65_536);
+}
+
+/// Every size from 0 by 0 to 9 by 9 and about the largest, under every format; block_counts and decode_paletted beside.
+fn every_small_size(ctx: &mut Ctx) {
+    let codes: Vec<u32> = BLOCKS.iter().chain(&PALETTES).chain(&STRANGE).copied().collect();
+    let sides: Vec<u32> = (0..10).chain([1023, 1024, 1025]).collect();
+    for &format in &codes {
+        for &width in &sides {
+            for &height in &sides {
+                try_call(&mut ctx.tally, &Call { op: Op::Size, width, height, format, ty: 0, data: Vec::new(), out: 0 });
+                ctx.tally.count("sizes");
+                if width > 9 || height > 9 {
+                    continue;
+                }
+                let mut rng = ctx.rng(&format!("{format:x}/{width}/{height}"));
+                let n = rust::compressed_image_size(format, width, height).unwrap_or(9);
+                for n in [n, n + 1, n.saturating_sub(1)] {
+                    let data = rng.bytes(n);
+                    try_call(&mut ctx.tally, &Call { op: Op::Compressed, width, height, format, ty: 0, data, out: (width * height * 4) as usize });
+                }
+                let (bw, bh) = rust::probe::block_counts(width, height);
+                let (number, size) = port::compressed_image_size(DXT1[0], width, height, 0);
+                let data = rng.bytes(1200);
+                let mut out = vec![0; (width * height * 4) as usize];
+                if PALETTES.contains(&format) && port::decode_compressed_to_rgba(&data, width, height, format, &mut out) == 0 {
+                    let image = rust::probe::decode_paletted(&data, width, height, format).expect("1,200 bytes are enough");
+                    if let Some(words) = same::bytes("decode_paletted", &image, &out) {
+                        ctx.tally.difference(words);
+                    }
+                }
+                ctx.tally.cases += 2;
+                if (number, size) != (0, bw * bh * 8) {
+                    ctx.tally.difference(format!("block_counts of {width} by {height}: {bw}, {bh} from the Rust, {size} bytes from the port"));
+                }
+            }
+        }
+    }
+    for format in FORMATS.iter().chain(&STRANGE).chain(&BLOCKS) {
+        for ty in PACKED.iter().chain(&[BYTE]).chain(&STRANGE) {
+            let (rust, port) = (rust::bytes_per_texel(*format, *ty).unwrap_or(0), port::bytes_per_texel(*format, *ty));
+            ctx.tally.cases += 1;
+            if rust != port {
+                ctx.tally.difference(format!("bytes_per_texel of {format:x}, {ty:x}: {rust} from the Rust, {port} from the port"));
+            }
+        }
+    }
+}
+
+fn run(ctx: &mut Ctx) {
+    every_packed_texel(ctx);
+    every_small_size(ctx);
+    blocks(ctx);
+    ctx.spread("calls", ctx.cases, 1 << 10, |tally, rng, range| {
+        for _ in range {
+            let call = call(rng, 20);
+            try_call(tally, &call);
+            tally.count("random calls");
+        }
+    });
+    for (op, numbers) in [("plain", &[0, 9, 11, 14, 15][..]), ("compressed", &[0, 9, 11, 14, 15]), ("size", &[0, 9, 14])] {
+        for number in numbers {
+            ctx.floor(&format!("{op} answered {number}"), 1000);
+        }
+    }
+    ctx.floor("images with a zero side", 1000);
+    ctx.floor("compressed images with overhang or odd rows", 1000);
+    ctx.floor("packed images under an unknown format", 1000);
+    for format in BLOCKS.iter().chain(&PALETTES) {
+        ctx.floor(&format!("images of {format:04X}"), 1000);
+    }
+    for format in FORMATS {
+        ctx.floor(&format!("images of format {format:04X}"), 1000);
+    }
+    for ty in PACKED {
+        ctx.floor(&format!("images of type {ty:04X}"), 1000);
+    }
+}
+
+/// An entry: operation, width, height, format, type, bytes of data, bytes of output, number, size, the data, the output.
+fn entry(record: &mut Record, call: &Call, left: &Left) {
+    let mut bytes = vec![OPS.iter().position(|(op, _)| *op == call.op).expect("every operation has a place") as u8];
+    for n in [call.width, call.height, call.format, call.ty, call.data.len() as u32, call.out as u32, left.number] {
+        bytes.extend(n.to_le_bytes());
+    }
+    bytes.extend((left.size as u64).to_le_bytes());
+    bytes.extend(&call.data);
+    bytes.extend(&left.out);
+    record.entry(&bytes);
+}
+
+/// How many bytes of output the replay has room for.
+const ROOM: usize = 1024;
+
+fn record(record: &mut Record) {
+    let mut rng = Rng::named(1, "texels/record", 0);
+    let mut heavy = 0;
+    while record.answers() < 1500 {
+        let call = call(&mut rng, 7);
+        if call.out > ROOM {
+            continue;
+        }
+        // A palette of 256 entries is long: some are enough.
+        if call.data.len() > 400 {
+            heavy += 1;
+            if heavy > 120 {
+                continue;
+            }
+        }
+        let left = wanted(&call);
+        entry(record, &call, &left);
+    }
+}
