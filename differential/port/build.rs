@@ -2,11 +2,7 @@
 use std::path::PathBuf;
 
 /// The exported Rattle crates. Two archives link together.
-<<<<<<< HEAD
 const ARCHIVES: &[&str] = &["probes", "tilefringe"];
-=======
-const ARCHIVES: [&str; 2] = ["probes", "tilefringe"];
->>>>>>> 715ad0d95d7b7eb12b4488182dda0a976c151ecb
 
 fn main() {
     let here = PathBuf::from(std::env::var("CARGO_MANIFEST_DIR").unwrap());

@@ -36,7 +36,15 @@ fn texel_of(c: [u8; 3], alpha: u8) -> [u8; 4]
 }
 
 // A block of which some texels may hang over.
-fn put_edge_block(out: &mut [u8], w: usize, h: usize, bx: usize, by: usize, rgb: [[u8; 3]; 16], alpha: [u8; 16])
+fn put_edge_block(
+    out: &mut [u8],
+    w: usize,
+    h: usize,
+    bx: usize,
+    by: usize,
+    rgb: [[u8; 3]; 16],
+    alpha: [u8; 16],
+)
     requires { ⌜ InImage w h bx by (now out) ⌝ }
     ensures { λ _. ⌜ now (out .exit) ≡ putBlock w h (texelFrom rgb alpha) bx by (now (out .entry)) ⌝ }
 {
@@ -48,7 +56,15 @@ fn put_edge_block(out: &mut [u8], w: usize, h: usize, bx: usize, by: usize, rgb:
 }
 
 // A block within the image.
-fn put_whole_block(out: &mut [u8], w: usize, h: usize, bx: usize, by: usize, rgb: [[u8; 3]; 16], alpha: [u8; 16])
+fn put_whole_block(
+    out: &mut [u8],
+    w: usize,
+    h: usize,
+    bx: usize,
+    by: usize,
+    rgb: [[u8; 3]; 16],
+    alpha: [u8; 16],
+)
     requires { ⌜ (bx * 4 + 4 ≤ w) × (by * 4 + 4 ≤ h) × InImage w h bx by (now out) ⌝ }
     ensures { λ _. ⌜ now (out .exit) ≡ putBlock w h (texelFrom rgb alpha) bx by (now (out .entry)) ⌝ }
 {

@@ -60,6 +60,6 @@ cases =
     ∷ size 0x83F0 5 4 16
     ∷ size 0x83F1 5 4 16
     ∷ inside 4 4 (Within (record { x = pos 1; y = pos 0; width = pos 2; height = pos 1 }))
-        (0 ∷ 0 ∷ 0 ∷ 0 ∷ 0 ∷ 0 ∷ 0 ∷ 0 ∷ 0 ∷ 0 ∷ 0 ∷ 0 ∷ 0 ∷ 1 ∷ 1 ∷ 0 ∷ [])
+    (0 ∷ 0 ∷ 0 ∷ 0 ∷ 0 ∷ 0 ∷ 0 ∷ 0 ∷ 0 ∷ 0 ∷ 0 ∷ 0 ∷ 0 ∷ 1 ∷ 1 ∷ 0 ∷ [])
     ∷ top (levelAt 0 8 4 ∷ levelAt 128 4 2 ∷ levelAt 160 2 1 ∷ replicate 8 absent) 2
     ∷ []

@@ -63,7 +63,11 @@ fn is_decode_right(entry: &[u8], room: &mut [u8]) -> bool {
 }
 
 fn is_size_right(entry: &[u8]) -> bool {
-    match compressed::compressed_image_size(replay::u32_at(entry, 9), replay::u32_at(entry, 1), replay::u32_at(entry, 5)) {
+    match compressed::compressed_image_size(
+        replay::u32_at(entry, 9),
+        replay::u32_at(entry, 1),
+        replay::u32_at(entry, 5),
+    ) {
         Sized::Bytes(n) => replay::u32_at(entry, 25) == 0 && n as u64 == replay::u64_at(entry, 29),
         Sized::Refused(why) => why.number() == replay::u32_at(entry, 25),
     }

@@ -36,7 +36,12 @@ fn refusal(sized: Sized) -> u32 {
 }
 
 fn size(width: u32, height: u32) {
-    told(b"size", width, height, refusal(compressed::compressed_image_size(0x8B95, width, height)));
+    told(
+        b"size",
+        width,
+        height,
+        refusal(compressed::compressed_image_size(0x8B95, width, height)),
+    );
 }
 
 pub fn run() {

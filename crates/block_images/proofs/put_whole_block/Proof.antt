@@ -123,10 +123,12 @@ unfolding putNth putTexel
 loop-again c = let a = c .before .before .before .before .before .before .before .before .before .args in
     let i = c .before .before .before .before .before .before .before .loop .i in
     let x : a .bx * 4 + i % 4 < a .w = omega (arith, c .before .before .before .before .before .before .before .before .before .pre .0) in
-    let y : a .by * 4 + i / 4 < a .h = omega (arith, c .before .before .before .before .before .before .before .before .before .pre .1) in
-    (search needs, c .before .before .put4 .kept .0 ∙ c .before .before .before .before .before .before .before .loop .inv .1,
+    let y : a .by * 4 + i / 4 < a .h = omega (arith, c .before .before .before .before .before .before .before .before .before .pre .1) in (
+      search needs,
+      c .before .before .put4 .kept .0 ∙ c .before .before .before .before .before .before .before .loop .inv .1,
       rw (← iter-more, ← c .before .before .before .before .before .before .before .loop .inv .2)
-      (no _ (lt-leb (a .w) (a .bx * 4 + i % 4) x) (no _ (lt-leb (a .h) (a .by * 4 + i / 4) y) (c .before .before .put4 .ensures ∙ rw (c .before .before .before .before .texel-of .ensures)))))
+          (no _ (lt-leb (a .w) (a .bx * 4 + i % 4) x) (no _ (lt-leb (a .h) (a .by * 4 + i / 4) y) (c .before .before .put4 .ensures ∙ rw (c .before .before .before .before .texel-of .ensures)))),
+    )
 
 -- src/lib.rt:51:1
 same-length : tie.Need-same-length Inv-loop μ-loop
