@@ -1,0 +1,62 @@
+/* Tilefringe: a proved triangle renderer for OpenGL ES 1. docs/INTERFACE.md says more.
+ *
+ * Each call answers a number of document 01; a refused call leaves all memory as it was:
+ *    0  done
+ *    1  target side above 4,096, or lengths of colours or depths that do not fit its sides
+ *    2  scissor number outside -8,192 to 8,192
+ *    4  a float that is not finite, or above 1,048,576 in magnitude
+ *    9  image side above 1,024
+ *   11  too few bytes
+ *   14  unknown format or type
+ *   15  output not 4 x width x height bytes
+ *   16  unknown code
+ *
+ * A slice is a pointer and a length; a pointer with length 0 may be any that is not used otherwise.
+ */
+#ifndef TILEFRINGE_H
+#define TILEFRINGE_H
+
+#include <stddef.h>
+#include <stdint.h>
+
+#ifdef __cplusplus
+extern "C" {
+#endif
+
+/* The bytes of a texel of a format and type; 0 for an unknown pair. */
+size_t tf_bytes_per_texel(uint32_t format, uint32_t type);
+
+/* Decodes an image of plain texels into RGBA, four bytes a texel. Answers 0, 14, 9, 11 or 15. */
+uint32_t tf_decode_to_rgba(const uint8_t *data, size_t data_len, uint32_t width, uint32_t height, uint32_t format,
+                           uint32_t type, uint8_t *out, size_t out_len);
+
+/* Decodes a compressed or paletted image into RGBA. Answers 0, 9, 14, 11 or 15; a zero side is done, or 15. */
+uint32_t tf_decode_compressed_to_rgba(const uint8_t *data, size_t data_len, uint32_t width, uint32_t height,
+                                      uint32_t format, uint8_t *out, size_t out_len);
+
+/* The bytes that a compressed image takes, in *size where it answers 0. Answers 0, 9 or 14. */
+uint32_t tf_compressed_image_size(uint32_t format, uint32_t width, uint32_t height, size_t *size);
+
+/* Sets the colours of the scissor box: the whole target where boxed is 0, else the box, counted from the bottom left. Answers 0, 1 or 2. */
+uint32_t tf_clear_color(uint8_t *colors, size_t colors_len, size_t depths_len, uint32_t width, uint32_t height,
+                        uint8_t r, uint8_t g, uint8_t b, uint8_t a, uint32_t boxed, int32_t box_x, int32_t box_y,
+                        int32_t box_width, int32_t box_height);
+
+/* Sets the depths of the scissor box. Answers 0, 1, 2 or 4. */
+uint32_t tf_clear_depth(float *depths, size_t depths_len, size_t colors_len, uint32_t width, uint32_t height,
+                        float value, uint32_t boxed, int32_t box_x, int32_t box_y, int32_t box_width,
+                        int32_t box_height);
+
+/* The colours as RGB565, low byte first, as many whole pixels as fit. Answers 0 or 1. */
+uint32_t tf_to_rgb565(const uint8_t *colors, size_t colors_len, size_t depths_len, uint32_t width, uint32_t height,
+                      uint8_t *out, size_t out_len);
+
+/* Whether the code of a comparison, or of a blend factor, is known: 0 or 16. */
+uint32_t tf_compare_func(uint32_t code);
+uint32_t tf_blend_factor(uint32_t code);
+
+#ifdef __cplusplus
+}
+#endif
+
+#endif
