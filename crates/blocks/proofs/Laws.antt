@@ -1,11 +1,10 @@
 -- A mixture of two bytes is a byte, and a selector of three bits is below eight. Assumes nothing.
-use mathlib.Core.Path.{_≡_, sym, _∙_}
 use mathlib.Core.List.{List}
-use Prim.Native.Nat.{ℕ, _+_, _-_, _*_, _/_, _≤_, _<_}
-use native.Mathlib.Nat.{mul-le-mul-left, div-le-of-le-mul, mod-lt}
+use Prim.Native.Nat.{ℕ, _-_, _*_, _≤_, _<_}
+use native.Mathlib.Nat.{mul-le-mul-left, div-le-of-le-mul}
 use native.Mathlib.Decide.{decLt}
 use native.Mathlib.Omega.{arith}
-use lib.ListN.{length, getD, List·getD-eq-default}
+use lib.ListN.{getD, List·getD-eq-default}
 use Rattle.lists.specs.Lists.{tab}
 use Rattle.lists.proofs.Tables.{getD-tab, length-tab}
 use Rattle.blocks.specs.Blocks.{mixed, selector, sixBytes, alphaSelectors, ThreeBits}

@@ -1,14 +1,14 @@
 -- A list taken as cells of k elements: what a copy over one cell leaves in each, a list known by its cells, and a run of copies that joins.
 -- Assumes nothing.
-use mathlib.Core.Path.{_≡_, refl, sym, ap, _∙_}
-use mathlib.Core.List.{List, [], _∷_, _++_, append-assoc, append-nil}
+use mathlib.Core.Path.{_≡_, sym, ap, _∙_}
+use mathlib.Core.List.{List, _++_, append-assoc}
 use Prim.Native.Nat.{ℕ, zero, suc, _+_, _-_, _*_, _≤_, _<_}
-use native.Mathlib.Nat.{zero-mul, suc-mul, mul-le-mul-right, le-refl, add-zero}
+use native.Mathlib.Nat.{zero-mul, suc-mul, mul-le-mul-right, le-refl}
 use native.Mathlib.Numerals.{add-one}
 use native.Mathlib.Decide.{decLt}
 use native.Mathlib.Omega.{arith}
 use lib.ListN.{length, take, drop, length-append, length-drop, take-append-drop}
-use lib.Seq.{paste, paste-zero, take-paste, drop-paste, length-take-le, take-all, take-take, drop-drop, take-append-le, drop-append-le, drop-at}
+use lib.Seq.{paste, paste-zero, take-paste, drop-paste, length-take-le, take-all, drop-drop, take-append-le, drop-append-le, drop-at}
 use Rattle.lists.specs.Lists.{flat}
 use Rattle.lists.proofs.Rows.{length-flat}
 use Rattle.lists.proofs.Parts.{part-of-part}

@@ -1,13 +1,12 @@
 -- The parts of a joined list: what stands at the i-th, how a list of lists of lists joins, and equal parts. Assumes nothing.
 use mathlib.Core.Path.{_≡_, refl, sym, ap, _∙_}
-use mathlib.Core.List.{List, [], _∷_, _++_, append-nil, append-assoc}
+use mathlib.Core.List.{List, _++_, append-nil, append-assoc}
 use Prim.Native.Nat.{ℕ, zero, suc, _+_, _*_, _≤_, _<_}
 use native.Mathlib.Nat.{zero-mul, suc-mul, add-zero, add-suc, le-refl, mul-le-mul-right}
-use native.Mathlib.Numerals.{add-one}
 use native.Mathlib.Decide.{decLt}
 use native.Mathlib.Omega.{arith}
-use lib.ListN.{length, take, drop, length-append, length-drop, take-append-drop}
-use lib.Seq.{take-at, take-all, take-append-le, drop-at, drop-append-le}
+use lib.ListN.{length, take, drop, length-drop, take-append-drop}
+use lib.Seq.{take-all, take-append-le, drop-at, drop-append-le}
 use Rattle.lists.specs.Lists.{flat}
 use Rattle.lists.proofs.Rows.{length-flat}
 

@@ -1,8 +1,8 @@
 -- Indices of b bits, where b divides 8: each lies in one byte, and a row of them in its bytes. Assumes nothing.
 use mathlib.Core.Path.{_≡_, refl, sym, ap, _∙_}
-use mathlib.Core.List.{List, [], _∷_}
-use Prim.Native.Nat.{ℕ, zero, suc, _+_, _-_, _*_, _/_, _%_, _^_, _≤_, _<_}
-use native.Mathlib.Nat.{zero-mul, mul-zero, suc-mul, le-mul-of-pos-right, mul-comm, mod-lt, mul-mod-left, mul-div-cancel, mul-le-mul-right, one-mul, mod-eq-of-lt, lt-of-le-of-lt}
+use mathlib.Core.List.{List, []}
+use Prim.Native.Nat.{ℕ, _+_, _-_, _*_, _/_, _%_, _^_, _≤_, _<_}
+use native.Mathlib.Nat.{zero-mul, mul-zero, suc-mul, le-mul-of-pos-right, mul-comm, mod-lt, mul-mod-left, mul-le-mul-right, one-mul, mod-eq-of-lt, lt-of-le-of-lt}
 use native.Mathlib.Decide.{decLt}
 use native.Mathlib.Omega.{arith}
 use lib.Arith.{mod-mul}
@@ -12,7 +12,7 @@ use Rattle.lists.proofs.Parts.{flat-ext}
 use Rattle.texels.specs.declared.Texel.{Texel}
 use Rattle.texels.specs.declared.Texel.the-variants.{Alpha, Luminance, LuminanceAlpha, Rgb, Rgba, Rgb565, Rgba4444, Rgba5551}
 use Rattle.texels.specs.Image.{image}
-use Rattle.texels.specs.Texels.{nthTexel, texelAt, texelBytes}
+use Rattle.texels.specs.Texels.{nthTexel}
 use Rattle.palette_images.specs.Paletted.{rowBytes, paletteBytes, indexIn, indexAt, palettedTexel, palettedImage, Entries, entry, entryAt}
 
 module _ (b : ℕ) (h : 8 / b * b ≡ 8) where

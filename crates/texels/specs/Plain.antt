@@ -7,7 +7,7 @@ use lib.ListN.{length}
 use Rattle.texels.specs.declared.Format.{Format}
 use Rattle.texels.specs.declared.Format.the-variants.{Known, Unknown}
 use Rattle.texels.specs.Image.{image, sideAbove}
-use Rattle.texels.specs.Texels.{nthTexel, formatOf, formatBytes}
+use Rattle.texels.specs.Texels.{nthTexel, formatBytes}
 
 -- document 01, Decode plain: 14, 9, 11, 15. n bytes of data, m bytes of output
 unfoldable pub plainCheck : Format → ℕ → ℕ → ℕ → ℕ → ℕ

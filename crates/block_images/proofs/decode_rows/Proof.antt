@@ -1,4 +1,5 @@
-use mathlib.Core.Path.{_≡_, refl, sym, ap, _∙_}
+-- `decode_rows` meets its contract. The invariant: the first by rows of blocks are put. Assumes nothing.
+use mathlib.Core.Path.{_≡_, refl, _∙_}
 use Rattle.block_images.specs.Walk.{blocksOver, putRow, putRows}
 use Prim.Native.Nat.{_-_, _≤_, _<_}
 use native.Mathlib.Omega.{arith}
@@ -27,18 +28,33 @@ loop-holds : tie.Need-loop-holds Inv-loop μ-loop
 loop-holds c = (search needs, refl, iter-none _ _)
 
 decode-row-requires : tie.Need-decode-row-requires Inv-loop μ-loop
-decode-row-requires c κs = let a = c .before .before .before .before .before .before .args in
-    let in-image : c .before .before .loop .by < blocksOver (a .h) = omega arith in (
-      omega (arith, c .before .before .before .before .before .before .pre .0, row-of-blocks-in (c .before .before .loop .by) (blocksOver (a .h)) (blocksOver (a .w)) (blockBytes (a .b)) in-image),
-      record { wide = c .before .before .before .before .before .before .pre .1 .wide; high = c .before .before .before .before .before .before .pre .1 .high; col = omega arith; row = omega (arith, c .before .before .before .before .before .before .pre .1 .high); size = c .before .before .loop .inv .1 ∙ c .before .before .before .before .before .before .pre .1 .size },
+decode-row-requires c κs =
+    let p2 = c .before .before in
+    let p6 = p2 .before .before .before .before in
+    let a = p6 .args in
+    let in-image : p2 .loop .by < blocksOver (a .h) = omega arith in (
+      omega (arith, p6 .pre .0, row-of-blocks-in (p2 .loop .by) (blocksOver (a .h)) (blocksOver (a .w)) (blockBytes (a .b)) in-image),
+      record {
+        wide = p6 .pre .1 .wide;
+        high = p6 .pre .1 .high;
+        col = omega arith;
+        row = omega (arith, p6 .pre .1 .high);
+        size = p2 .loop .inv .1
+            ∙ p6 .pre .1 .size;
+      },
     )
 
 loop-again : tie.Need-loop-again Inv-loop μ-loop
-loop-again c = (search needs, c .before .before .decode-row .kept .1 .1 .0 ∙ c .before .before .before .before .before .loop .inv .1, rw (← iter-more, ← c .before .before .before .before .before .loop .inv .2) (c .before .before .decode-row .ensures))
+loop-again c =
+    let p2 = c .before .before in
+    let p5 = p2 .before .before .before in
+    (search needs, p2 .decode-row .kept .1 .1 .0 ∙ p5 .loop .inv .1, rw (← iter-more, ← p5 .loop .inv .2) (p2 .decode-row .ensures))
 
 returns : tie.Need-returns Inv-loop μ-loop
 unfolding putRows
-returns c = let e : c .before .loop .by ≡ blocksOver (c .before .before .before .before .before .args .h) = omega arith in c .before .loop .inv .2 ∙ rw e
+returns c =
+    let p5 = c .before .before .before .before .before in
+    let e : c .before .loop .by ≡ blocksOver (p5 .args .h) = omega arith in c .before .loop .inv .2 ∙ rw e
 
 pub decode-rows-spec : {M : Type 1} → statement M
 decode-rows-spec =

@@ -1,3 +1,4 @@
+-- `alpha_palette` meets its contract, by the order of the two alphas. Assumes nothing.
 use borrow.Author.Tests.{lt-ltb, le-ltb}
 use Rattle.blocks.specs.Blocks.{alphaPalette}
 use borrow.Author.Needs.{needs}

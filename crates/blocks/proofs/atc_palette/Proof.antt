@@ -1,3 +1,4 @@
+-- `atc_palette` meets its contract, by the mode bit. Assumes nothing.
 use borrow.Author.Tests.{lt-ltb, le-ltb}
 use Rattle.blocks.specs.Blocks.{atcPalette}
 use borrow.Author.Needs.{needs}

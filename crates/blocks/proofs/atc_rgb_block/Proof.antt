@@ -1,3 +1,4 @@
+-- `atc_rgb_block` meets its contract: what its callees ensure, joined. Assumes nothing.
 use Rattle.blocks.specs.Blocks.{atc}
 use borrow.Author.Needs.{needs}
 use Rattle.blocks.proofs.atc_rgb_block.Statement.{statement}

@@ -1,4 +1,5 @@
-use mathlib.Core.Path.{_≡_, refl, sym, ap, _∙_}
+-- `block_alpha` meets its contract: each arm has its own format's alphas. Assumes nothing.
+use mathlib.Core.Path.{ap}
 use Rattle.blocks.specs.Blocks.{blockBytes}
 use native.Mathlib.Omega.{arith}
 use borrow.Author.Needs.{needs}

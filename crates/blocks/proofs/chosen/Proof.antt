@@ -1,4 +1,5 @@
-use mathlib.Core.List.{[]}
+-- `chosen` meets its contract. The invariant: the first i texels are chosen. Assumes nothing.
+use mathlib.Core.List.{[], _++_, append-nil}
 use Rattle.blocks.specs.Blocks.{selector, chosen}
 use Rattle.lists.proofs.Tables.{tab-none, tab-more}
 use Rattle.lists.specs.Lists.{tab}
@@ -6,8 +7,7 @@ use lib.ListN.{drop, getD}
 use borrow.Author.Needs.{needs}
 use native.Mathlib.Omega.{arith}
 use Prim.Native.Nat.{_-_, _≤_}
-use mathlib.Core.List.{_++_, append-nil}
-use mathlib.Core.Path.{_≡_, refl, sym, ap, _∙_}
+use mathlib.Core.Path.{_≡_, _∙_}
 use Rattle.blocks.proofs.chosen.Statement.{statement}
 use Rattle.blocks.proofs.chosen.Tie as tie
 
@@ -22,11 +22,18 @@ loop-holds : tie.Need-loop-holds Inv-loop μ-loop
 loop-holds c = (search needs, tab-none _ _)
 
 loop-again : tie.Need-loop-again Inv-loop μ-loop
-loop-again c = (search needs, rw (c .before .before .before .loop .inv .1, c .before .selector2 .ensures .0) (tab-more (λ j. getD (c .before .before .before .before .args .t1) (selector 2 (c .before .before .before .before .args .bits) j) []) (c .before .before .before .loop .i) _ (search needs)))
+loop-again c =
+    let p3 = c .before .before .before in
+    let p4 = p3 .before in (
+      search needs,
+      rw (p3 .loop .inv .1, c .before .selector2 .ensures .0)
+          (tab-more (λ j. getD (p4 .args .t1) (selector 2 (p4 .args .bits) j) []) (p3 .loop .i) _ (search needs)),
+    )
 
 returns : tie.Need-returns Inv-loop μ-loop
 unfolding chosen
-returns c = let e : c .before .loop .i ≡ 16 = omega arith in c .before .loop .inv .1 ∙ rw e (append-nil _)
+returns c =
+    let e : c .before .loop .i ≡ 16 = omega arith in c .before .loop .inv .1 ∙ rw e (append-nil _)
 
 pub chosen-spec : {M : Type 1} → statement M
 chosen-spec =

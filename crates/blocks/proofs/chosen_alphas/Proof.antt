@@ -1,3 +1,4 @@
+-- `chosen_alphas` meets its contract. The invariant: the first i alphas are chosen; each selector is below eight. Assumes nothing.
 use Rattle.lists.proofs.Tables.{tab-none, tab-more}
 use Rattle.lists.specs.Lists.{tab}
 use lib.ListN.{drop, getD}
@@ -5,7 +6,7 @@ use borrow.Author.Needs.{needs}
 use native.Mathlib.Omega.{arith}
 use Prim.Native.Nat.{_-_, _≤_}
 use mathlib.Core.List.{_++_, append-nil}
-use mathlib.Core.Path.{_≡_, refl, sym, ap, _∙_}
+use mathlib.Core.Path.{_≡_, _∙_}
 use Rattle.blocks.proofs.chosen_alphas.Statement.{statement}
 use Rattle.blocks.proofs.chosen_alphas.Tie as tie
 
@@ -26,10 +27,13 @@ array-read-out : tie.Need-array-read-out Inv-loop μ-loop
 array-read-out c = omega (arith, c .before .before .pre (c .before .loop .i))
 
 loop-again : tie.Need-loop-again Inv-loop μ-loop
-loop-again c = let a = c .before .before .args in (search needs, rw (c .before .loop .inv .1) (tab-more (λ j. getD (a .t1) (getD (a .t2) j 0) 0) (c .before .loop .i) _ (search needs)))
+loop-again c =
+    let a = c .before .before .args in
+    (search needs, rw (c .before .loop .inv .1) (tab-more (λ j. getD (a .t1) (getD (a .t2) j 0) 0) (c .before .loop .i) _ (search needs)))
 
 returns : tie.Need-returns Inv-loop μ-loop
-returns c = let e : c .before .loop .i ≡ 16 = omega arith in c .before .loop .inv .1 ∙ rw e (append-nil _)
+returns c =
+    let e : c .before .loop .i ≡ 16 = omega arith in c .before .loop .inv .1 ∙ rw e (append-nil _)
 
 pub chosen-alphas-spec : {M : Type 1} → statement M
 chosen-alphas-spec =

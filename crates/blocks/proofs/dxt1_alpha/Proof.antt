@@ -1,7 +1,8 @@
+-- `dxt1_alpha` meets its contract, test by test. Assumes nothing.
 use Rattle.lists.proofs.Choice.{yes, no}
 use borrow.Author.Tests.{lt-ltb, le-ltb, eq-eqb, ne-eqb}
 use Rattle.blocks.specs.Blocks.{dxt1AlphaOf}
-use mathlib.Core.Path.{_≡_, refl, sym, ap, _∙_}
+use mathlib.Core.Path.{refl}
 use Rattle.blocks.proofs.dxt1_alpha.Statement.{statement}
 use Rattle.blocks.proofs.dxt1_alpha.Tie as tie
 

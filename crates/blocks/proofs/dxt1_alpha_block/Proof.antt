@@ -1,4 +1,5 @@
-use mathlib.Core.Path.{_≡_, refl, sym, ap, _∙_}
+-- `dxt1_alpha_block` meets its contract: what its callees ensure, joined. Assumes nothing.
+use mathlib.Core.Path.{_∙_}
 use Rattle.blocks.specs.Blocks.{dxt1Alpha}
 use borrow.Author.Needs.{needs}
 use Rattle.blocks.proofs.dxt1_alpha_block.Statement.{statement}
@@ -6,7 +7,10 @@ use Rattle.blocks.proofs.dxt1_alpha_block.Tie as tie
 
 returns : tie.Need-returns
 unfolding dxt1Alpha
-returns c = c .dxt1-alphas .ensures ∙ rw (c .before .before .before .half .ensures .0, c .before .before .half2 .ensures .0, c .before .four-bytes .ensures)
+returns c =
+    let p2 = c .before .before in
+    let p3 = p2 .before in
+    c .dxt1-alphas .ensures ∙ rw (p3 .half .ensures .0, p2 .half2 .ensures .0, c .before .four-bytes .ensures)
 
 pub dxt1-alpha-block-spec : {M : Type 1} → statement M
 dxt1-alpha-block-spec =

@@ -1,12 +1,13 @@
+-- `dxt1_alphas` meets its contract. The invariant: the first i alphas are there. Assumes nothing.
 use Rattle.blocks.specs.Blocks.{selector, dxt1AlphaOf}
 use Rattle.lists.proofs.Tables.{tab-none, tab-more}
 use Rattle.lists.specs.Lists.{tab}
-use lib.ListN.{drop, getD}
+use lib.ListN.{drop}
 use borrow.Author.Needs.{needs}
 use native.Mathlib.Omega.{arith}
 use Prim.Native.Nat.{_-_, _≤_}
 use mathlib.Core.List.{_++_, append-nil}
-use mathlib.Core.Path.{_≡_, refl, sym, ap, _∙_}
+use mathlib.Core.Path.{_≡_, _∙_}
 use Rattle.blocks.proofs.dxt1_alphas.Statement.{statement}
 use Rattle.blocks.proofs.dxt1_alphas.Tie as tie
 
@@ -21,10 +22,18 @@ loop-holds : tie.Need-loop-holds Inv-loop μ-loop
 loop-holds c = (search needs, tab-none _ _)
 
 loop-again : tie.Need-loop-again Inv-loop μ-loop
-loop-again c = let a = c .before .before .before .before .args in (search needs, rw (c .before .before .before .loop .inv .1, c .dxt1-alpha .ensures, c .before .selector2 .ensures .0) (tab-more (λ j. dxt1AlphaOf (a .c0) (a .c1) (selector 2 (a .bits) j)) (c .before .before .before .loop .i) _ (search needs)))
+loop-again c =
+    let p3 = c .before .before .before in
+    let p4 = p3 .before in
+    let a = p4 .args in (
+      search needs,
+      rw (p3 .loop .inv .1, c .dxt1-alpha .ensures, c .before .selector2 .ensures .0)
+          (tab-more (λ j. dxt1AlphaOf (a .c0) (a .c1) (selector 2 (a .bits) j)) (p3 .loop .i) _ (search needs)),
+    )
 
 returns : tie.Need-returns Inv-loop μ-loop
-returns c = let e : c .before .loop .i ≡ 16 = omega arith in c .before .loop .inv .1 ∙ rw e (append-nil _)
+returns c =
+    let e : c .before .loop .i ≡ 16 = omega arith in c .before .loop .inv .1 ∙ rw e (append-nil _)
 
 pub dxt1-alphas-spec : {M : Type 1} → statement M
 dxt1-alphas-spec =

@@ -1,3 +1,4 @@
+-- `dxt1_palette` meets its contract, by the order of the endpoints. Assumes nothing.
 use borrow.Author.Tests.{lt-ltb, le-ltb}
 use Rattle.blocks.specs.Blocks.{dxt1Palette}
 use borrow.Author.Needs.{needs}

@@ -1,3 +1,4 @@
+-- `dxt1_rgb_block` meets its contract: what its callees ensure, joined. Assumes nothing.
 use Rattle.blocks.specs.Blocks.{dxt1}
 use borrow.Author.Needs.{needs}
 use Rattle.blocks.proofs.dxt1_rgb_block.Statement.{statement}

@@ -1,4 +1,5 @@
-use mathlib.Core.Path.{_≡_, refl, sym, ap, _∙_}
+-- `explicit_alpha` meets its contract: the byte is read wide. Assumes nothing.
+use mathlib.Core.Path.{_∙_}
 use borrow.Author.Needs.{needs}
 use Rattle.blocks.proofs.explicit_alpha.Statement.{statement}
 use Rattle.blocks.proofs.explicit_alpha.Tie as tie

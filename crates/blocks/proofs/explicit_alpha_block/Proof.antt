@@ -1,4 +1,5 @@
-use Prim.Native.Nat.{_+_, _*_, _/_, _%_, _^_}
+-- `explicit_alpha_block` meets its contract. The invariant: the first i alphas are there. Assumes nothing.
+use Prim.Native.Nat.{_+_, _*_, _/_, _%_, _^_, _-_, _≤_}
 use Rattle.texels.specs.Texels.{expand4}
 use Rattle.blocks.specs.Blocks.{explicitAlpha}
 use Rattle.lists.proofs.Tables.{tab-none, tab-more}
@@ -6,9 +7,8 @@ use Rattle.lists.specs.Lists.{tab}
 use lib.ListN.{drop, getD}
 use borrow.Author.Needs.{needs}
 use native.Mathlib.Omega.{arith}
-use Prim.Native.Nat.{_-_, _≤_}
 use mathlib.Core.List.{_++_, append-nil}
-use mathlib.Core.Path.{_≡_, refl, sym, ap, _∙_}
+use mathlib.Core.Path.{_≡_, _∙_}
 use Rattle.blocks.proofs.explicit_alpha_block.Statement.{statement}
 use Rattle.blocks.proofs.explicit_alpha_block.Tie as tie
 
@@ -23,11 +23,19 @@ loop-holds : tie.Need-loop-holds Inv-loop μ-loop
 loop-holds c = (search needs, tab-none _ _)
 
 loop-again : tie.Need-loop-again Inv-loop μ-loop
-loop-again c = let a = c .before .before .before .before .before .args in (search needs, rw (c .before .before .before .loop .inv .1, c .explicit-alpha .ensures) (tab-more (λ j. expand4 (getD (a .s .now) (a .at + j / 2) 0 / 2 ^ (4 * (j % 2)))) (c .before .before .before .loop .i) _ (search needs)))
+loop-again c =
+    let p3 = c .before .before .before in
+    let p5 = p3 .before .before in
+    let a = p5 .args in (
+      search needs,
+      rw (p3 .loop .inv .1, c .explicit-alpha .ensures)
+          (tab-more (λ j. expand4 (getD (a .s .now) (a .at + j / 2) 0 / 2 ^ (4 * (j % 2)))) (p3 .loop .i) _ (search needs)),
+    )
 
 returns : tie.Need-returns Inv-loop μ-loop
 unfolding explicitAlpha
-returns c = let e : c .before .loop .i ≡ 16 = omega arith in c .before .loop .inv .1 ∙ rw e (append-nil _)
+returns c =
+    let e : c .before .loop .i ≡ 16 = omega arith in c .before .loop .inv .1 ∙ rw e (append-nil _)
 
 pub explicit-alpha-block-spec : {M : Type 1} → statement M
 explicit-alpha-block-spec =

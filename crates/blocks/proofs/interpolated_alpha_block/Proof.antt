@@ -1,4 +1,5 @@
-use mathlib.Core.Path.{_≡_, refl, sym, ap, _∙_}
+-- `interpolated_alpha_block` meets its contract: the selectors that are read have three bits. Assumes nothing.
+use mathlib.Core.Path.{_∙_}
 use Rattle.blocks.specs.Blocks.{interpolatedAlpha}
 use Rattle.blocks.proofs.Laws.{three-bits}
 use borrow.Author.Needs.{needs}

@@ -1,22 +1,39 @@
+-- `mix` meets its contract: the sum is at most n times 255, so that it fits and its n-th is a byte. Assumes nothing.
 use Rattle.blocks.proofs.Laws.{mixed-byte, sub-le, byte}
 use native.Mathlib.Nat.{mul-le-mul, le-refl}
 use native.Mathlib.Omega.{arith}
-use mathlib.Core.Path.{_≡_, refl, sym, ap, _∙_}
 use borrow.Author.Needs.{needs}
 use Rattle.blocks.proofs.mix.Statement.{statement}
 use Rattle.blocks.proofs.mix.Tie as tie
 
 mul-result : tie.Need-mul-result
-mul-result c = let a = c .before .args in omega (arith, mul-le-mul (sub-le (a .n) (a .k)) (byte (c .wide .ensures .1)))
+mul-result c =
+    let a = c .before .args in
+    omega (arith, mul-le-mul (sub-le (a .n) (a .k)) (byte (c .wide .ensures .1)))
 
 mul-result-2 : tie.Need-mul-result-2
-mul-result-2 c = let a = c .before .before .args in omega (arith, mul-le-mul (c .before .before .pre .2) (byte (c .wide2 .ensures .1)), mul-le-mul (c .before .before .pre .1) (le-refl 255))
+mul-result-2 c =
+    let a = c .before .before .args in
+    omega (arith, mul-le-mul (c .before .before .pre .2) (byte (c .wide2 .ensures .1)), mul-le-mul (c .before .before .pre .1) (le-refl 255))
 
 add-result : tie.Need-add-result
-add-result c = let a = c .before .before .args in omega (arith, mul-le-mul (sub-le (a .n) (a .k)) (byte (c .before .wide .ensures .1)), mul-le-mul (c .before .before .pre .2) (byte (c .wide2 .ensures .1)))
+add-result c =
+    let a = c .before .before .args in
+    omega (
+      arith,
+      mul-le-mul (sub-le (a .n) (a .k)) (byte (c .before .wide .ensures .1)),
+      mul-le-mul (c .before .before .pre .2)
+          (byte (c .wide2 .ensures .1)),
+    )
 
 cast-result : tie.Need-cast-result
-cast-result c = let a = c .before .before .args in omega (arith, mixed-byte (a .k) (a .n) (c .before .wide .result) (c .wide2 .result) (c .before .before .pre .2) (c .before .wide .ensures .1) (c .wide2 .ensures .1))
+cast-result c =
+    let a = c .before .before .args in
+    omega (
+      arith,
+      mixed-byte (a .k) (a .n) (c .before .wide .result) (c .wide2 .result) (c .before .before .pre .2) (c .before .wide .ensures .1)
+          (c .wide2 .ensures .1),
+    )
 
 returns : tie.Need-returns
 returns c = rw (c .before .wide .ensures .0, c .wide2 .ensures .0)

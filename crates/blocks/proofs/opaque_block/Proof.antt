@@ -1,6 +1,7 @@
+-- `opaque_block` meets its contract: sixteen times 255. Assumes nothing.
 use Rattle.lists.specs.Lists.{tab}
 use Rattle.blocks.specs.Blocks.{opaque}
-use mathlib.Core.Path.{_≡_, refl, sym, ap, _∙_}
+use mathlib.Core.Path.{refl}
 use Rattle.blocks.proofs.opaque_block.Statement.{statement}
 use Rattle.blocks.proofs.opaque_block.Tie as tie
 

@@ -1,4 +1,5 @@
-use mathlib.Core.Path.{_≡_, refl, sym, ap, _∙_}
+-- `palette_of` meets its contract. The invariant: the first i entries are decoded. Assumes nothing.
+use mathlib.Core.Path.{_≡_, _∙_}
 use mathlib.Core.List.{[], _++_}
 use Prim.Native.Nat.{_-_, _≤_}
 use native.Mathlib.Omega.{arith}
@@ -22,18 +23,46 @@ loop-holds : tie.Need-loop-holds Inv-loop μ-loop
 loop-holds c = (search needs, tab-none _ _)
 
 mul-texel-at : tie.Need-mul-texel-at Inv-loop μ-loop
-mul-texel-at c = rw (c .before .before .texel-bytes .ensures) (omega (arith, c .before .before .before .before .pre .1, row-in (c .before .loop .i) (c .before .before .before .before .args .n) (texelBytes (c .before .before .before .before .args .t)) 0 (texelBytes (c .before .before .before .before .args .t)) (search needs) (search needs)))
+mul-texel-at c =
+    let p2 = c .before .before in
+    let p4 = p2 .before .before in
+    rw (p2 .texel-bytes .ensures)
+    (omega (
+      arith,
+      p4 .pre .1,
+      row-in (c .before .loop .i) (p4 .args .n) (texelBytes (p4 .args .t)) 0 (texelBytes (p4 .args .t)) (search needs)
+          (search needs),
+    ))
 
 texel-at-requires : tie.Need-texel-at-requires Inv-loop μ-loop
-texel-at-requires c κs = rw (c .before .before .texel-bytes .ensures) (omega (arith, c .before .before .before .before .pre .1, row-in (c .before .loop .i) (c .before .before .before .before .args .n) (texelBytes (c .before .before .before .before .args .t)) 0 (texelBytes (c .before .before .before .before .args .t)) (search needs) (search needs)))
+texel-at-requires c κs =
+    let p2 = c .before .before in
+    let p4 = p2 .before .before in
+    rw (p2 .texel-bytes .ensures)
+    (omega (
+      arith,
+      p4 .pre .1,
+      row-in (c .before .loop .i) (p4 .args .n) (texelBytes (p4 .args .t)) 0 (texelBytes (p4 .args .t)) (search needs)
+          (search needs),
+    ))
 
 loop-again : tie.Need-loop-again Inv-loop μ-loop
 unfolding nthTexel
-loop-again c = let a = c .before .before .before .before .before .args in (search needs, rw (c .before .before .loop .inv .1, c .texel-at .ensures, c .before .before .before .texel-bytes .ensures) (tab-more (nthTexel (a .t) (a .s .now)) (c .before .before .loop .i) _ (search needs)))
+loop-again c =
+    let p2 = c .before .before in
+    let p3 = p2 .before in
+    let p5 = p3 .before .before in
+    let a = p5 .args in (
+      search needs,
+      rw (p2 .loop .inv .1, c .texel-at .ensures, p3 .texel-bytes .ensures)
+          (tab-more (nthTexel (a .t) (a .s .now)) (p2 .loop .i) _ (search needs)),
+    )
 
 returns : tie.Need-returns Inv-loop μ-loop
-returns c = λ i h.
-    let a = c .before .before .before .before .args in
+returns c =
+    let p4 = c .before .before .before .before in
+    λ i h.
+    let a = p4 .args in
     let e : c .before .loop .i ≡ a .n = omega arith in
     rw (c .before .loop .inv .1, e)
     (List·getD-append (tab (a .n) (nthTexel (a .t) (a .s .now))) _ [] i (rw (length-tab (nthTexel (a .t) (a .s .now)) (a .n)) h)

@@ -1,3 +1,4 @@
+-- `row_bytes` meets its contract: the product is small. Assumes nothing.
 use native.Mathlib.Omega.{arith}
 use native.Mathlib.Nat.{mul-le-mul}
 use borrow.Author.Needs.{needs}

@@ -1,3 +1,4 @@
+-- `byte_format` meets its contract: each arm is the code of one test, and the last fails them all. Assumes nothing.
 use borrow.Author.Tests.{ne-eqb}
 use Rattle.texels.specs.Texels.{byteFormat}
 use Rattle.texels.proofs.byte_format.Statement.{statement}
@@ -25,7 +26,9 @@ returns-5 c = rw (c .match .keys5)
 
 returns-6 : tie.Need-returns-6
 unfolding byteFormat
-returns-6 c = let m = c .match .rest in simp (ne-eqb _ _ (m .0 .0 .0 .0 .1), ne-eqb _ _ (m .0 .0 .0 .1), ne-eqb _ _ (m .0 .0 .1), ne-eqb _ _ (m .0 .1), ne-eqb _ _ (m .1))
+returns-6 c =
+    let m = c .match .rest in simp
+    (ne-eqb _ _ (m .0 .0 .0 .0 .1), ne-eqb _ _ (m .0 .0 .0 .1), ne-eqb _ _ (m .0 .0 .1), ne-eqb _ _ (m .0 .1), ne-eqb _ _ (m .1))
 
 pub byte-format-spec : {M : Type 1} → statement M
 byte-format-spec = tie.close (tie.spec

@@ -1,35 +1,51 @@
+-- `decode_texels` meets its contract: each arm fills with its own kind. Assumes nothing.
 use lib.ListN.{length}
 use Prim.Native.Nat.{ℕ, _*_, _≤_}
-use mathlib.Core.Path.{subst}
+use mathlib.Core.Path.{subst, ap}
 use Rattle.texels.specs.Texels.{texelBytes}
-use mathlib.Core.Path.{ap}
 use borrow.Author.Needs.{needs}
 use Rattle.texels.proofs.decode_texels.Statement.{statement}
 use Rattle.texels.proofs.decode_texels.Tie as tie
 
 fill-requires : tie.Need-fill-requires
-fill-requires c κs = (subst (λ (k : ℕ). c .before .before .before .before .before .args .count * k ≤ length (c .before .before .before .before .before .args .s .now)) (ap texelBytes (c .before .enum-told .given .1)) (c .before .before .before .before .before .pre .0), c .before .before .before .before .before .pre .1)
+fill-requires c κs =
+    let p5 = c .before .before .before .before .before in
+    (subst (λ (k : ℕ). p5 .args .count * k ≤ length (p5 .args .s .now)) (ap texelBytes (c .before .enum-told .given .1)) (p5 .pre .0), p5 .pre .1)
 
 fill-requires-2 : tie.Need-fill-requires-2
-fill-requires-2 c κs = (subst (λ (k : ℕ). c .before .before .before .before .before .args .count * k ≤ length (c .before .before .before .before .before .args .s .now)) (ap texelBytes (c .before .enum-told2 .given .1)) (c .before .before .before .before .before .pre .0), c .before .before .before .before .before .pre .1)
+fill-requires-2 c κs =
+    let p5 = c .before .before .before .before .before in
+    (subst (λ (k : ℕ). p5 .args .count * k ≤ length (p5 .args .s .now)) (ap texelBytes (c .before .enum-told2 .given .1)) (p5 .pre .0), p5 .pre .1)
 
 fill-requires-3 : tie.Need-fill-requires-3
-fill-requires-3 c κs = (subst (λ (k : ℕ). c .before .before .before .before .before .args .count * k ≤ length (c .before .before .before .before .before .args .s .now)) (ap texelBytes (c .before .enum-told3 .given .1)) (c .before .before .before .before .before .pre .0), c .before .before .before .before .before .pre .1)
+fill-requires-3 c κs =
+    let p5 = c .before .before .before .before .before in
+    (subst (λ (k : ℕ). p5 .args .count * k ≤ length (p5 .args .s .now)) (ap texelBytes (c .before .enum-told3 .given .1)) (p5 .pre .0), p5 .pre .1)
 
 fill-requires-4 : tie.Need-fill-requires-4
-fill-requires-4 c κs = (subst (λ (k : ℕ). c .before .before .before .before .before .args .count * k ≤ length (c .before .before .before .before .before .args .s .now)) (ap texelBytes (c .before .enum-told4 .given .1)) (c .before .before .before .before .before .pre .0), c .before .before .before .before .before .pre .1)
+fill-requires-4 c κs =
+    let p5 = c .before .before .before .before .before in
+    (subst (λ (k : ℕ). p5 .args .count * k ≤ length (p5 .args .s .now)) (ap texelBytes (c .before .enum-told4 .given .1)) (p5 .pre .0), p5 .pre .1)
 
 fill-requires-5 : tie.Need-fill-requires-5
-fill-requires-5 c κs = (subst (λ (k : ℕ). c .before .before .before .before .before .args .count * k ≤ length (c .before .before .before .before .before .args .s .now)) (ap texelBytes (c .before .enum-told5 .given .1)) (c .before .before .before .before .before .pre .0), c .before .before .before .before .before .pre .1)
+fill-requires-5 c κs =
+    let p5 = c .before .before .before .before .before in
+    (subst (λ (k : ℕ). p5 .args .count * k ≤ length (p5 .args .s .now)) (ap texelBytes (c .before .enum-told5 .given .1)) (p5 .pre .0), p5 .pre .1)
 
 fill-requires-6 : tie.Need-fill-requires-6
-fill-requires-6 c κs = (subst (λ (k : ℕ). c .before .before .before .before .before .args .count * k ≤ length (c .before .before .before .before .before .args .s .now)) (ap texelBytes (c .before .enum-told6 .given .1)) (c .before .before .before .before .before .pre .0), c .before .before .before .before .before .pre .1)
+fill-requires-6 c κs =
+    let p5 = c .before .before .before .before .before in
+    (subst (λ (k : ℕ). p5 .args .count * k ≤ length (p5 .args .s .now)) (ap texelBytes (c .before .enum-told6 .given .1)) (p5 .pre .0), p5 .pre .1)
 
 fill-requires-7 : tie.Need-fill-requires-7
-fill-requires-7 c κs = (subst (λ (k : ℕ). c .before .before .before .before .before .args .count * k ≤ length (c .before .before .before .before .before .args .s .now)) (ap texelBytes (c .before .enum-told7 .given .1)) (c .before .before .before .before .before .pre .0), c .before .before .before .before .before .pre .1)
+fill-requires-7 c κs =
+    let p5 = c .before .before .before .before .before in
+    (subst (λ (k : ℕ). p5 .args .count * k ≤ length (p5 .args .s .now)) (ap texelBytes (c .before .enum-told7 .given .1)) (p5 .pre .0), p5 .pre .1)
 
 fill-requires-8 : tie.Need-fill-requires-8
-fill-requires-8 c κs = (subst (λ (k : ℕ). c .before .before .before .before .before .args .count * k ≤ length (c .before .before .before .before .before .args .s .now)) (ap texelBytes (c .before .enum-told8 .given .1)) (c .before .before .before .before .before .pre .0), c .before .before .before .before .before .pre .1)
+fill-requires-8 c κs =
+    let p5 = c .before .before .before .before .before in
+    (subst (λ (k : ℕ). p5 .args .count * k ≤ length (p5 .args .s .now)) (ap texelBytes (c .before .enum-told8 .given .1)) (p5 .pre .0), p5 .pre .1)
 
 returns : tie.Need-returns
 returns c = rw (c .before .before .before .before .enum-told .given .1) (c .before .before .fill .ensures)

@@ -1,3 +1,4 @@
+-- `format_of` meets its contract: each arm is the code of one test, and the last fails them all. Assumes nothing.
 use borrow.Author.Tests.{ne-eqb}
 use Rattle.texels.specs.Texels.{formatOf}
 use borrow.Author.Needs.{needs}
@@ -22,7 +23,8 @@ returns-4 c = rw (c .before .match .keys4) (c .byte-format .ensures)
 
 returns-5 : tie.Need-returns-5
 unfolding formatOf
-returns-5 c = let m = c .match .rest in simp (ne-eqb _ _ (m .0 .0 .0 .1), ne-eqb _ _ (m .0 .0 .1), ne-eqb _ _ (m .0 .1), ne-eqb _ _ (m .1))
+returns-5 c =
+    let m = c .match .rest in simp (ne-eqb _ _ (m .0 .0 .0 .1), ne-eqb _ _ (m .0 .0 .1), ne-eqb _ _ (m .0 .1), ne-eqb _ _ (m .1))
 
 pub format-of-spec : {M : Type 1} → statement M
 format-of-spec =

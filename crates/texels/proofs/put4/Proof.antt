@@ -1,3 +1,4 @@
+-- `put4` meets its contract: four stores are a copy of four. Assumes nothing.
 use lib.ListN.{length-set}
 use native.Mathlib.Omega.{arith}
 use Rattle.lists.proofs.Stores.{paste-four}
@@ -15,7 +16,8 @@ slice-write-out-4 : tie.Need-slice-write-out-4
 slice-write-out-4 c = simp length-set (omega arith)
 
 returns : tie.Need-returns
-returns c = let a = c .args in paste-four (a .out .now) (a .at) (a .t3) 0 (omega arith) (omega arith)
+returns c =
+    let a = c .args in paste-four (a .out .now) (a .at) (a .t3) 0 (omega arith) (omega arith)
 
 pub put4-spec : {M : Type 1} → statement M
 put4-spec =

@@ -1,3 +1,4 @@
+-- `rgb565_at` meets its contract: two bytes, unpacked. Assumes nothing.
 use borrow.Author.Needs.{needs}
 use Rattle.texels.proofs.rgb565_at.Statement.{statement}
 use Rattle.texels.proofs.rgb565_at.Tie as tie

@@ -1,3 +1,4 @@
+-- `rgba4444_at` meets its contract: two bytes, unpacked. Assumes nothing.
 use borrow.Author.Needs.{needs}
 use Rattle.texels.proofs.rgba4444_at.Statement.{statement}
 use Rattle.texels.proofs.rgba4444_at.Tie as tie

@@ -1,3 +1,4 @@
+-- `rgba5551_at` meets its contract: two bytes, unpacked. Assumes nothing.
 use borrow.Author.Needs.{needs}
 use Rattle.texels.proofs.rgba5551_at.Statement.{statement}
 use Rattle.texels.proofs.rgba5551_at.Tie as tie

@@ -1,3 +1,4 @@
+-- `texel_at` meets its contract: each arm has its own texel's definition. Assumes nothing.
 use mathlib.Core.Path.{ap}
 use native.Mathlib.Omega.{arith}
 use Rattle.texels.specs.Texels.{texelBytes}
