@@ -1,43 +1,29 @@
 // The colours of a render target as 5-6-5 (raster.rs, RenderTarget::to_rgb565).
 ghost use mathlib.Core.Path.{_≡_};
 ghost use mathlib.Core.List.{_++_};
-ghost use Prim.Native.Nat.{ℕ, _+_, _*_, _/_, _%_, _≤_};
+ghost use Prim.Native.Nat.{ℕ, _*_, _≤_};
 ghost use lib.ListN.{length, drop};
 ghost use Rattle.lists.specs.Lists.{flat};
 ghost use Rattle.answers.specs.Numbers.{numberOf};
-ghost use Rattle.export.specs.Export.{rgb565At, exportedOf, exportCheck, rgb565Of};
+ghost use Rattle.export.specs.Export.{packed, rgb565At, exportedOf, exportCheck, rgb565Of};
 use answers::Answer;
 use answers::Refusal;
 
-// The low byte: three bits of green, five of blue.
-fn low_byte(g: u8, b: u8) -> u8
-    ensures { λ v. ⌜ v ≡ g / 4 % 8 * 32 + b / 8 ⌝ }
+fn pack(r: u8, g: u8, b: u8) -> u16
+    ensures { λ v. ⌜ v ≡ packed r g b ⌝ }
 {
-    (g / 4 % 8) * 32 + b / 8
+    (r as u16 / 8) * 2048 + (g as u16 / 4) * 32 + b as u16 / 8
 }
 
-// The high byte: five bits of red, three of green.
-fn high_byte(r: u8, g: u8) -> u8
-    ensures { λ v. ⌜ v ≡ r / 8 * 8 + g / 32 ⌝ }
-{
-    (r / 8) * 8 + g / 32
-}
-
-// What is left of the colours is carried along as a slice: so the loop is compiled to wide loads.
 fn export_pixels(colors: &[u8], n: usize, out: &mut [u8])
     requires { ⌜ (n * 4 ≤ length (now colors)) × (n * 2 ≤ length (now out)) ⌝ }
     ensures { λ _. ⌜ now (out .exit) ≡ flat n (rgb565At (now (colors .entry))) ++ drop (n * 2) (now (out .entry)) ⌝ }
 {
-    let mut rest = colors;
-    let mut p = 0;
-    while p < n {
-        let o = p * 2;
-        let low = low_byte(rest[1], rest[2]);
-        let high = high_byte(rest[0], rest[1]);
-        out[o] = low;
-        out[o + 1] = high;
-        rest = &rest[4..];
-        p += 1;
+    for p in 0..n {
+        let i = p * 4;
+        let v = pack(colors[i], colors[i + 1], colors[i + 2]);
+        out[p * 2] = (v % 256) as u8;
+        out[p * 2 + 1] = (v / 256) as u8;
     }
 }
 
