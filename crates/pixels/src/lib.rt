@@ -1,0 +1,156 @@
+// The pixel's way (raster.rs, raster_clipped): weights, depth test, 1/w, colour, stages, alpha test, fog, blend, masked colour, depth, count.
+ghost use mathlib.Core.Path.{_≡_};
+ghost use Prim.Native.Nat.{_+_, _*_, _<_, _≤_};
+ghost use lib.ListN.{length, set};
+ghost use mathlib.Core.List.{[]};
+ghost use Rattle.detail.specs.Steps.{Thresholds};
+ghost use Rattle.gradients.specs.Gradients.{sumOf, perCorner};
+ghost use Rattle.frames.specs.State.{pixelAt};
+ghost use Rattle.frames.specs.Gather.{putColor};
+ghost use Rattle.stages.specs.Stages.{StagesFit};
+ghost use Rattle.pixels.specs.Way.{drawing, fogDepthOf, finished, shadedOf, fragmentOf, blendedOf, writtenOf, pixelOf, drawnTo, recOf};
+use coverage::Primitive;
+use gradients::PerCorner;
+use levels::Texture;
+use settings::PipelineState;
+use settings::Rgba;
+use settings::TextureStage;
+
+// What becomes of a pixel's fragment: it is dropped, or kept with its depth and colour.
+pub enum Fragment {
+    Dropped,
+    Kept(f32, Rgba),
+}
+
+fn fog_depth_at(p: PerCorner, t: Primitive) -> f32
+    ensures { λ r. ⌜ r ≡ sumOf p (perCorner (t .a .«fog_depth») (t .b .«fog_depth») (t .c .«fog_depth»)) ⌝ }
+{
+    gradients::weighted_sum(
+        p,
+        PerCorner {
+            a: t.a.fog_depth,
+            b: t.b.fog_depth,
+            c: t.c.fog_depth,
+        },
+    )
+}
+
+// Past the stages: the alpha test, then fog.
+fn finish(state: PipelineState, z: f32, fog_depth: f32, c: Rgba) -> Fragment
+    ensures { λ r. ⌜ r ≡ finished state z «fog_depth» c ⌝ }
+{
+    if !fragment::alpha_passes(state, c.a) {
+        return Fragment::Dropped;
+    }
+    Fragment::Kept(z, fragment::fogged(state, fog_depth, c))
+}
+
+// The fragment at a pixel's weights; stored is the pixel's depth.
+pub fn fragment_at(
+    store: &[u8],
+    table: &[f64; 128],
+    state: PipelineState,
+    stages: [TextureStage; 4],
+    count: usize,
+    textures: [Texture; 4],
+    t: Primitive,
+    w: PerCorner,
+    stored: f32,
+) -> Fragment
+    requires { ⌜ Thresholds (now table) ⌝ ∗ ⌜ StagesFit (length (now store)) count stages textures ⌝ }
+    ensures { λ r. ⌜ r ≡ fragmentOf (now (store .entry)) (drawing state stages count textures) t w stored ⌝ }
+{
+    let z = coverage::depth_at(t.raster, w);
+    if !fragment::depth_passes(state, z, stored) {
+        return Fragment::Dropped;
+    }
+    let iw = coverage::inv_w_at(t.raster, w);
+    if !coverage::is_usable(iw) {
+        return Fragment::Dropped;
+    }
+    let rec = 1.0 / iw;
+    let p = coverage::shares_of(t.raster, w, rec);
+    let a = t.a.color;
+    let b = t.b.color;
+    let c = t.c.color;
+    let color = coverage::color_at(state.smooth_shading, p, a, b, c);
+    let shaded = stages::stages_color(store, table, stages, count, textures, t, w, rec, color);
+    finish(state, z, fog_depth_at(p, t), shaded)
+}
+
+// The colour to write over a pixel's bytes.
+fn blended(colors: &[u8], i: usize, state: PipelineState, c: Rgba) -> Rgba
+    requires { ⌜ i * 4 + 4 ≤ length (now colors) ⌝ }
+    ensures { λ r. ⌜ r ≡ blendedOf state c (pixelAt (now (colors .entry)) [] i) ⌝ }
+{
+    if state.blend {
+        let k = i * 4;
+        let dst = fragment::to_units(colors[k], colors[k + 1], colors[k + 2], colors[k + 3]);
+        let src_factor = state.blend_src;
+        let dst_factor = state.blend_dst;
+        return fragment::blend(src_factor, dst_factor, c, dst);
+    }
+    c
+}
+
+fn write_color(colors: &mut [u8], i: usize, state: PipelineState, z: f32, c: Rgba)
+    requires { ⌜ i * 4 + 4 ≤ length (now colors) ⌝ }
+    ensures { λ _. ⌜ now (colors .exit) ≡ putColor (now (colors .entry)) i (writtenOf state z c (pixelAt (now (colors .entry)) [] i)) ⌝ }
+{
+    let out = blended(colors, i, state, c);
+    let mask = state.color_mask;
+    fragment::put_color(colors, i * 4, mask, out);
+}
+
+fn write_depth(depths: &mut [f32], i: usize, state: PipelineState, z: f32, c: Rgba)
+    requires { ⌜ i < length (now depths) ⌝ }
+    ensures { λ _. ⌜ now (depths .exit) ≡ set (now (depths .entry)) i (writtenOf state z c (pixelAt [] (now (depths .entry)) i) .depth) ⌝ }
+{
+    if state.depth_write {
+        depths[i] = z;
+    }
+}
+
+// One pixel of a triangle. Answers the number of pixels written so far.
+pub fn draw_pixel(
+    colors: &mut [u8],
+    depths: &mut [f32],
+    store: &[u8],
+    table: &[f64; 128],
+    state: PipelineState,
+    stages: [TextureStage; 4],
+    count: usize,
+    textures: [Texture; 4],
+    t: Primitive,
+    width: usize,
+    py: u32,
+    px: u32,
+    written: usize,
+) -> usize
+    requires { ⌜ Thresholds (now table) ⌝ ∗ ⌜ StagesFit (length (now store)) count stages textures ⌝ }
+    requires { ⌜ (px < 4096) × (py < 4096) × (width ≤ 4096) × (written ≤ 1000000000000) ⌝ }
+    requires { ⌜ (py * width + px < length (now depths)) × (length (now colors) ≡ 4 * length (now depths)) ⌝ }
+    ensures { λ r. ⌜ drawnTo (now (colors .exit)) (now (depths .exit)) r ≡ pixelOf (now (store .entry)) (drawing state stages count textures) t width py px (drawnTo (now (colors .entry)) (now (depths .entry)) written) ⌝ }
+{
+    let w = coverage::weights_at(t.raster, px, py);
+    if !coverage::is_covered(w) {
+        return written;
+    }
+    let i = py as usize * width + px as usize;
+    let Fragment::Kept(z, c) = fragment_at(
+        store,
+        table,
+        state,
+        stages,
+        count,
+        textures,
+        t,
+        w,
+        depths[i],
+    ) else {
+        return written;
+    };
+    write_color(colors, i, state, z, c);
+    write_depth(depths, i, state, z, c);
+    written + 1
+}
