@@ -21,7 +21,7 @@ use Rattle.draw.specs.declared.DrawAnswer.{DrawAnswer}
 use Rattle.draw.specs.declared.DrawAnswer.the-variants as D
 use Rattle.draw.specs.Checks.{earlyCheck, lateCheck}
 
--- what a draw is handed beside the target and the store; textures: the four units' records
+-- what a draw is handed beside the target, the store and the records
 pub record DrawArgs : Type 0 where
   pub state : PipelineState
   pub stages : List TextureStage
@@ -30,7 +30,10 @@ pub record DrawArgs : Type 0 where
   pub b : Vertex
   pub c : Vertex
 
--- the record of the unit that stage i names, for each stage in use; a stage that is not in use reads none
+abbrev pub drawArgs : PipelineState → List TextureStage → ℕ → Vertex → Vertex → Vertex → DrawArgs
+drawArgs s stages n a b c = record { state = s; stages = stages; count = n; a = a; b = b; c = c }
+
+-- the record of the unit that stage i names, for each stage in use; a stage that is not in use reads none. units: the four units' records
 abbrev pub boundAt : List TextureStage → ℕ → List Texture → ℕ → Texture
 boundAt stages n units i = cond (ltb i n) (textureAt units (stageAt stages i .unit)) newTexture
 

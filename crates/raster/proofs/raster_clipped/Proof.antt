@@ -34,7 +34,7 @@ primitive-requires c κs = search needs
 
 -- src/lib.rt:173:5
 fill-requires : tie.Need-fill-requires
-fill-requires c κs = 
+fill-requires c κs =
     let w = setup-within _ _ _ _ (c .before .before .before .before .before .before .before .before .before .before .before .before .args .within) _ _ _ (sym (c .before .before .before .before .before .before .before .setup-triangle .ensures) ∙ c .before .before .before .before .before .raster .given .1) in
     (c .before .before .before .before .before .before .before .before .before .before .before .before .pre .0, (c .before .before .before .before .before .before .before .before .before .before .before .before .pre .1 .0, ((omega (arith, c .before .before .before .before .before .before .before .before .before .before .before .before .pre, w .x-to), omega (arith, c .before .before .before .before .before .before .before .before .before .before .before .before .pre, w .y-to), omega (arith, c .before .before .before .before .before .before .before .before .before .before .before .before .pre), omega (arith, c .before .before .before .before .before .before .before .before .before .before .before .before .pre)), (omega (arith, c .before .before .before .before .before .before .before .before .before .before .before .before .pre, mul-le-mul-right (c .before .before .before .before .before .before .before .before .before .before .before .before .args .width) (w .y-to)), omega (arith, c .before .before .before .before .before .before .before .before .before .before .before .before .pre)))))
 
