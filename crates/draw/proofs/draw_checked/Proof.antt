@@ -8,62 +8,19 @@ use Rattle.draw.proofs.Passed.{no-viewport, no-pixels, in-box}
 use borrow.Author.Needs.{needs}
 use Rattle.draw.proofs.draw_checked.Statement.{statement}
 use Rattle.draw.proofs.draw_checked.Tie as tie
-use Rattle.draw.proofs.draw_checked.Reads as reads
-use Rattle.draw.proofs.draw_checked.Lts as lts
-use Rattle.detail.proofs.thresholds.Reads as thresholds-reads
-use Rattle.raster.proofs.draw_left.Reads as draw-left-reads
-use Rattle.scissor.proofs.scissor_bounds.Reads as scissor-bounds-reads
-use Rattle.screen.proofs.view_of.Reads as view-of-reads
-use Rattle.screen.proofs.viewport_draws.Reads as viewport-draws-reads
 
--- src/lib.rt:299:9
-viewport-draws-requires : tie.Need-viewport-draws-requires
-viewport-draws-requires c κs = search needs
-
--- src/lib.rt:300:9
 returns : tie.Need-returns
 returns c = no-viewport _ (drawing (c .before .before .before .before .before .before .args .state) (c .before .before .before .before .before .before .args .stages) (c .before .before .before .before .before .before .args .count) (c .before .before .before .before .before .before .args .textures)) (c .before .before .before .before .before .before .args .width) (c .before .before .before .before .before .before .args .height) (c .before .before .before .before .before .before .args .a) (c .before .before .before .before .before .before .args .b) (c .before .before .before .before .before .before .args .c) _ (was-not (c .before .viewport-draws .ensures) (c .if1 .taken))
 
--- src/lib.rt:303:42
-scissor-bounds-requires : tie.Need-scissor-bounds-requires
-scissor-bounds-requires c κs = search needs
-
--- src/lib.rt:303:23
-enum-known-x0 : tie.Need-enum-known-x0
-enum-known-x0 c = search needs
-
--- src/lib.rt:304:9
-enum-told : tie.Need-enum-told
-enum-told c = search needs
-
--- src/lib.rt:304:9
 returns-2 : tie.Need-returns-2
 returns-2 c = no-pixels _ (drawing (c .before .before .before .before .before .before .before .before .before .args .state) (c .before .before .before .before .before .before .before .before .before .args .stages) (c .before .before .before .before .before .before .before .before .before .args .count) (c .before .before .before .before .before .before .before .before .before .args .textures)) (c .before .before .before .before .before .before .before .before .before .args .width) (c .before .before .before .before .before .before .before .before .before .args .height) (c .before .before .before .before .before .before .before .before .before .args .a) (c .before .before .before .before .before .before .before .before .before .args .b) (c .before .before .before .before .before .before .before .before .before .args .c) _ (was-so (c .before .before .before .before .viewport-draws .ensures) (c .before .before .before .if1 .left)) (sym (c .before .before .scissor-bounds .ensures) ∙ c .enum-told .given .1)
 
--- src/lib.rt:306:9
-view-of-requires : tie.Need-view-of-requires
-view-of-requires c κs = search needs
-
--- src/lib.rt:307:17
-thresholds-requires : tie.Need-thresholds-requires
-thresholds-requires c κs = search needs
-
--- src/lib.rt:308:5
 draw-left-requires : tie.Need-draw-left-requires
 draw-left-requires c κs = 
     let t = target-is (c .before .before .before .before .before .before .before .before .before .before .before .before .before .before .before .args .width) (c .before .before .before .before .before .before .before .before .before .before .before .before .before .before .before .args .height) _ _ (c .before .before .before .before .before .before .before .before .before .before .before .before .before .before .before .pre .0) in
     let b = box-inside (c .before .before .before .before .before .before .before .before .before .before .before .before .before .before .before .args .width) (c .before .before .before .before .before .before .before .before .before .before .before .before .before .before .before .args .height) (c .before .before .before .before .before .before .before .before .before .before .before .before .before .before .before .args .state .scissor) (sym (c .before .before .before .before .before .before .x0 .given .1) ∙ c .before .before .before .before .before .before .before .before .scissor-bounds .ensures) in
     (c .before .before .before .thresholds .ensures, (c .before .before .before .before .before .before .before .before .before .before .before .before .before .before .before .pre .1, ((b .1, omega (arith, b .3, t .1), t .0), (rows-fit (c .before .before .before .before .before .before .before .before .before .before .before .before .before .before .before .args .width) (c .before .before .before .before .before .before .before .before .before .before .before .before .before .before .before .args .height) (b .3) (t .3), omega (arith, t .2, t .3)))))
 
--- src/lib.rt:280:1
-same-length : tie.Need-same-length
-same-length c = search needs
-
--- src/lib.rt:280:1
-same-length-2 : tie.Need-same-length-2
-same-length-2 c = search needs
-
--- src/lib.rt:280:1
 returns-3 : tie.Need-returns-3
 returns-3 c = c .before .before .before .before .draw-left .ensures ∙ rw (c .before .before .before .before .before .before .before .before .before .view-of .ensures) (in-box _ (drawing (c .before .before .before .before .before .before .before .before .before .before .before .before .before .before .before .before .before .before .before .before .args .state) (c .before .before .before .before .before .before .before .before .before .before .before .before .before .before .before .before .before .before .before .before .args .stages) (c .before .before .before .before .before .before .before .before .before .before .before .before .before .before .before .before .before .before .before .before .args .count) (c .before .before .before .before .before .before .before .before .before .before .before .before .before .before .before .before .before .before .before .before .args .textures)) (c .before .before .before .before .before .before .before .before .before .before .before .before .before .before .before .before .before .before .before .before .args .width) (c .before .before .before .before .before .before .before .before .before .before .before .before .before .before .before .before .before .before .before .before .args .height) (c .before .before .before .before .before .before .before .before .before .before .before .before .before .before .before .before .before .before .before .before .args .a) (c .before .before .before .before .before .before .before .before .before .before .before .before .before .before .before .before .before .before .before .before .args .b) (c .before .before .before .before .before .before .before .before .before .before .before .before .before .before .before .before .before .before .before .before .args .c) _ (was-so (c .before .before .before .before .before .before .before .before .before .before .before .before .before .before .before .viewport-draws .ensures) (c .before .before .before .before .before .before .before .before .before .before .before .before .before .before .if1 .left)) (sym (c .before .before .before .before .before .before .before .before .before .before .before .before .before .scissor-bounds .ensures) ∙ c .before .before .before .before .before .before .before .before .before .before .before .x0 .given .1))
 
@@ -71,15 +28,5 @@ pub draw-checked-spec : {M : Type 1} → statement M
 draw-checked-spec =
     tie.close
     (tie.spec
-    viewport-draws-requires
-    returns
-    scissor-bounds-requires
-    enum-known-x0
-    enum-told
-    returns-2
-    view-of-requires
-    thresholds-requires
-    draw-left-requires
-    same-length
-    same-length-2
-    returns-3)
+    (λ c κs. search needs) returns (λ c κs. search needs) (λ c. search needs) (λ c. search needs) returns-2
+    (λ c κs. search needs) (λ c κs. search needs) draw-left-requires (λ c. search needs) (λ c. search needs) returns-3)

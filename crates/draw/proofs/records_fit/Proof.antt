@@ -10,9 +10,6 @@ use Rattle.draw.specs.Checks.{allBelow, recordsFit}
 use Rattle.draw.proofs.Below.{below-none, below-more, below-miss}
 use Rattle.draw.proofs.records_fit.Statement.{statement}
 use Rattle.draw.proofs.records_fit.Tie as tie
-use Rattle.draw.proofs.records_fit.Reads as reads
-use Rattle.draw.proofs.records_fit.Lts as lts
-use Rattle.levels.proofs.is_valid.Reads as is-valid-reads
 
 abbrev Inv-loop : tie.InvT-loop
 Inv-loop count len textures i₀ i = (i ≤ count) × (allBelow i (λ k. validOf len (textureAt textures k)) ≡ true)
@@ -20,40 +17,16 @@ Inv-loop count len textures i₀ i = (i ≤ count) × (allBelow i (λ k. validOf
 abbrev μ-loop : tie.MeasureT-loop
 μ-loop count len textures i₀ i = count - i
 
--- src/lib.rt:160:5
 loop-holds : tie.Need-loop-holds Inv-loop μ-loop
 loop-holds c = (search needs, below-none _)
 
--- src/lib.rt:161:30
-mul-is-valid : tie.Need-mul-is-valid Inv-loop μ-loop
-mul-is-valid c = search needs
-
--- src/lib.rt:161:30
-array-copy-out-is-valid : tie.Need-array-copy-out-is-valid Inv-loop μ-loop
-array-copy-out-is-valid c = search needs
-
--- src/lib.rt:161:13
-is-valid-requires : tie.Need-is-valid-requires Inv-loop μ-loop
-is-valid-requires c κs = search needs
-
--- src/lib.rt:162:13
 returns : tie.Need-returns Inv-loop μ-loop
 unfolding recordsFit
 returns c = sym (below-miss (λ i. validOf (c .before .before .before .before .before .args .len) (textureAt (c .before .before .before .before .before .args .t1) i)) _ (c .before .before .before .before .loop .i) (omega arith) (sym (c .before .is-valid .ensures) ∙ not-true _ (c .if1 .taken)))
 
--- src/lib.rt:160:9
-add-i : tie.Need-add-i Inv-loop μ-loop
-add-i c = search needs
-
--- src/lib.rt:160:5
-loop-less : tie.Need-loop-less Inv-loop μ-loop
-loop-less c = search needs
-
--- src/lib.rt:160:5
 loop-again : tie.Need-loop-again Inv-loop μ-loop
 loop-again c = (search needs, below-more (λ i. validOf (c .before .before .before .before .before .args .len) (textureAt (c .before .before .before .before .before .args .t1) i)) _ (c .before .before .before .before .loop .inv .1) (sym (c .before .is-valid .ensures) ∙ not-false _ (c .if1 .left)))
 
--- src/lib.rt:156:1
 returns-2 : tie.Need-returns-2 Inv-loop μ-loop
 unfolding recordsFit
 returns-2 c = let e : c .before .loop .i ≡ c .before .before .args .count = omega arith in rw (← e) (sym (c .before .loop .inv .1))
@@ -62,14 +35,5 @@ pub records-fit-spec : {M : Type 1} → statement M
 records-fit-spec =
     tie.close
     (tie.spec
-    Inv-loop
-    μ-loop
-    loop-holds
-    mul-is-valid
-    array-copy-out-is-valid
-    is-valid-requires
-    returns
-    add-i
-    loop-less
-    loop-again
-    returns-2)
+    Inv-loop μ-loop loop-holds (λ c. search needs) (λ c. search needs) (λ c κs. search needs) returns (λ c. search needs)
+    (λ c. search needs) loop-again returns-2)

@@ -9,34 +9,19 @@ use Rattle.draw.specs.Checks.{viewportFits}
 use borrow.Author.Needs.{needs}
 use Rattle.draw.proofs.viewport_fits.Statement.{statement}
 use Rattle.draw.proofs.viewport_fits.Tie as tie
-use Rattle.draw.proofs.viewport_fits.Reads as reads
-use Rattle.draw.proofs.viewport_fits.Lts as lts
-use Rattle.scissor.proofs.number_fits.Reads as number-fits-reads
 
--- src/lib.rt:37:9
-number-fits-requires : tie.Need-number-fits-requires
-number-fits-requires c κs = search needs
-
--- src/lib.rt:38:9
 returns : tie.Need-returns
 unfolding viewportFits
 returns c = leave _ (c .before .number-fits .ensures ∙ ap numberFits (toZ-ofZ w32 (c .before .before .before .args .v .x) (record { sfits = c .before .before .struct-told .given .0 .1 }))) (c .if1 .taken) refl
 
--- src/lib.rt:40:9
-number-fits-requires-2 : tie.Need-number-fits-requires-2
-number-fits-requires-2 c κs = search needs
-
--- src/lib.rt:41:9
 returns-2 : tie.Need-returns-2
 unfolding viewportFits
 returns-2 c = stay _ (c .before .before .before .before .number-fits .ensures ∙ ap numberFits (toZ-ofZ w32 (c .before .before .before .before .before .before .args .v .x) (record { sfits = c .before .before .before .before .before .struct-told .given .0 .1 }))) (c .before .before .before .if1 .left) (leave _ (c .before .number-fits2 .ensures ∙ ap numberFits (toZ-ofZ w32 (c .before .before .before .before .before .before .args .v .y) (record { sfits = c .before .before .struct-told2 .given .1 .0 .1 }))) (c .if2 .taken) refl)
 
--- src/lib.rt:44:9
 returns-3 : tie.Need-returns-3
 unfolding viewportFits
 returns-3 c = stay _ (c .before .before .before .before .before .before .before .before .before .number-fits .ensures ∙ ap numberFits (toZ-ofZ w32 (c .before .before .before .before .before .before .before .before .before .before .before .args .v .x) (record { sfits = c .before .before .before .before .before .before .before .before .before .before .struct-told .given .0 .1 }))) (c .before .before .before .before .before .before .before .before .if1 .left) (stay _ (c .before .before .before .before .before .before .number-fits2 .ensures ∙ ap numberFits (toZ-ofZ w32 (c .before .before .before .before .before .before .before .before .before .before .before .args .v .y) (record { sfits = c .before .before .before .before .before .before .before .struct-told2 .given .1 .0 .1 }))) (c .before .before .before .before .before .if2 .left) (yes _ (rw (toZ-ofZ w32 (c .before .before .before .before .before .before .before .before .before .before .before .args .v .width) (record { sfits = c .before .before .before .struct-told3 .given .1 .1 .0 .1 })) at (c .before .before .if3 .taken)) (ap (λ (z : ℤ). leZ z (pos 4096)) (toZ-ofZ w32 (c .before .before .before .before .before .before .before .before .before .before .before .args .v .height) (record { sfits = c .struct-told4 .given .1 .1 .1 .0 .1 })))))
 
--- src/lib.rt:34:1
 returns-4 : tie.Need-returns-4
 unfolding viewportFits
 returns-4 c = stay _ (c .before .before .before .before .before .before .before .number-fits .ensures ∙ ap numberFits (toZ-ofZ w32 (c .before .before .before .before .before .before .before .before .before .args .v .x) (record { sfits = c .before .before .before .before .before .before .before .before .struct-told .given .0 .1 }))) (c .before .before .before .before .before .before .if1 .left) (stay _ (c .before .before .before .before .number-fits2 .ensures ∙ ap numberFits (toZ-ofZ w32 (c .before .before .before .before .before .before .before .before .before .args .v .y) (record { sfits = c .before .before .before .before .before .struct-told2 .given .1 .0 .1 }))) (c .before .before .before .if2 .left) (no _ (rw (toZ-ofZ w32 (c .before .before .before .before .before .before .before .before .before .args .v .width) (record { sfits = c .before .struct-told3 .given .1 .1 .0 .1 })) at (c .if3 .left)) refl))
@@ -44,4 +29,5 @@ returns-4 c = stay _ (c .before .before .before .before .before .before .before 
 pub viewport-fits-spec : {M : Type 1} → statement M
 viewport-fits-spec =
     tie.close
-    (tie.spec number-fits-requires returns number-fits-requires-2 returns-2 returns-3 returns-4)
+    (tie.spec
+    (λ c κs. search needs) returns (λ c κs. search needs) returns-2 returns-3 returns-4)

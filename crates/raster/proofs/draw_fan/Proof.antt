@@ -11,11 +11,6 @@ use Rattle.raster.proofs.Fills.{Filling, fill-more, fill-end}
 use Rattle.raster.proofs.Fans.{fan-small, corners-long, corners-few, fan-drawn}
 use Rattle.raster.proofs.draw_fan.Statement.{statement}
 use Rattle.raster.proofs.draw_fan.Tie as tie
-use Rattle.raster.proofs.draw_fan.Reads as reads
-use Rattle.raster.proofs.draw_fan.Lts as lts
-use Rattle.clip.proofs.clip_triangle.Reads as clip-triangle-reads
-use Rattle.polygon.proofs.corner.Reads as corner-reads
-use Rattle.raster.proofs.raster_clipped.Reads as raster-clipped-reads
 
 abbrev Inv-loop : tie.InvT-loop
 Inv-loop colors₀ depths₀ store table state stages count textures view within width polygon corners first n₀ i₀ i-end colors depths n i =
@@ -28,80 +23,34 @@ Inv-loop colors₀ depths₀ store table state stages count textures view within
 abbrev μ-loop : tie.MeasureT-loop
 μ-loop colors₀ depths₀ store table state stages count textures view within width polygon corners first n₀ i₀ i-end colors depths n i = i-end - i
 
--- src/lib.rt:212:39
-slice-aggregate-clip-triangle : tie.Need-slice-aggregate-clip-triangle Inv-loop μ-loop
-slice-aggregate-clip-triangle c = search needs
-
--- src/lib.rt:212:9
-clip-triangle-requires : tie.Need-clip-triangle-requires Inv-loop μ-loop
-clip-triangle-requires c κs = search needs
-
--- src/lib.rt:214:9
 returns : tie.Need-returns Inv-loop μ-loop
 returns c = sym (fan-small _ _ _ (omega (arith, corners-long _ _ (c .before .before .before .before .before .before .before .args .a) (c .before .before .before .before .before .before .before .args .b) (c .before .before .before .before .before .before .before .args .c) (c .before .before .clip-triangle .ensures))))
 
--- src/lib.rt:216:33
-slice-aggregate-corner : tie.Need-slice-aggregate-corner Inv-loop μ-loop
-slice-aggregate-corner c = search needs
-
--- src/lib.rt:216:9
-corner-requires : tie.Need-corner-requires Inv-loop μ-loop
-corner-requires c κs = search needs
-
--- src/lib.rt:218:17
-sub-i-end : tie.Need-sub-i-end Inv-loop μ-loop
-sub-i-end c = search needs
-
--- src/lib.rt:218:5
 loop-holds : tie.Need-loop-holds Inv-loop μ-loop
 loop-holds c = (record { rest = refl; colors-long = refl; depths-long = refl }, omega arith, refl)
 
--- src/lib.rt:219:38
-slice-aggregate-corner-2 : tie.Need-slice-aggregate-corner-2 Inv-loop μ-loop
-slice-aggregate-corner-2 c = search needs
-
--- src/lib.rt:219:13
 corner-requires-2 : tie.Need-corner-requires-2 Inv-loop μ-loop
 corner-requires-2 c κs = let few = corners-few _ _ (c .before .before .before .before .before .before .before .before .before .before .before .before .args .a) (c .before .before .before .before .before .before .before .before .before .before .before .before .args .b) (c .before .before .before .before .before .before .before .before .before .before .before .before .args .c) (c .before .before .before .before .before .before .before .clip-triangle .ensures) in (search needs, omega (arith, few, c .before .loop-test .taken, c .before .before .loop .inv .2))
 
--- src/lib.rt:220:37
-slice-aggregate-corner-3 : tie.Need-slice-aggregate-corner-3 Inv-loop μ-loop
-slice-aggregate-corner-3 c = search needs
-
--- src/lib.rt:220:47
-add-corner : tie.Need-add-corner Inv-loop μ-loop
-add-corner c = search needs
-
--- src/lib.rt:220:13
 corner-requires-3 : tie.Need-corner-requires-3 Inv-loop μ-loop
 corner-requires-3 c κs = let few = corners-few _ _ (c .before .before .before .before .before .before .before .before .before .before .before .before .before .before .args .a) (c .before .before .before .before .before .before .before .before .before .before .before .before .before .before .args .b) (c .before .before .before .before .before .before .before .before .before .before .before .before .before .before .args .c) (c .before .before .before .before .before .before .before .before .before .clip-triangle .ensures) in (search needs, omega (arith, few, c .before .before .before .loop-test .taken, c .before .before .before .before .loop .inv .2))
 
--- src/lib.rt:221:9
 raster-clipped-requires : tie.Need-raster-clipped-requires Inv-loop μ-loop
 raster-clipped-requires c κs = let few = corners-few _ _ (c .before .before .before .before .before .before .before .before .before .before .before .before .before .before .before .before .before .args .a) (c .before .before .before .before .before .before .before .before .before .before .before .before .before .before .before .before .before .args .b) (c .before .before .before .before .before .before .before .before .before .before .before .before .before .before .before .before .before .args .c) (c .before .before .before .before .before .before .before .before .before .before .before .before .clip-triangle .ensures) in (c .before .before .before .before .before .before .before .before .before .before .before .before .before .before .before .before .before .pre .0, (c .before .before .before .before .before .before .before .before .before .before .before .before .before .before .before .before .before .pre .1 .0, ((omega (arith, c .before .before .before .before .before .before .before .before .before .before .before .before .before .before .before .before .before .pre), omega (arith, c .before .before .before .before .before .before .before .before .before .before .before .before .before .before .before .before .before .pre), omega (arith, c .before .before .before .before .before .before .before .before .before .before .before .before .before .before .before .before .before .pre), omega (arith, few, c .before .before .before .before .before .before .before .loop .inv)), (omega (arith, c .before .before .before .before .before .before .before .before .before .before .before .before .before .before .before .before .before .pre, c .before .before .before .before .before .before .before .loop .inv .0 .depths-long), omega (arith, c .before .before .before .before .before .before .before .before .before .before .before .before .before .before .before .before .before .pre, c .before .before .before .before .before .before .before .loop .inv .0 .depths-long, c .before .before .before .before .before .before .before .loop .inv .0 .colors-long)))))
 
--- src/lib.rt:218:9
 add-i : tie.Need-add-i Inv-loop μ-loop
 add-i c = let few = corners-few _ _ (c .before .before .before .before .before .before .before .before .before .before .before .before .before .before .before .before .before .before .before .before .before .before .args .a) (c .before .before .before .before .before .before .before .before .before .before .before .before .before .before .before .before .before .before .before .before .before .before .args .b) (c .before .before .before .before .before .before .before .before .before .before .before .before .before .before .before .before .before .before .before .before .before .before .args .c) (c .before .before .before .before .before .before .before .before .before .before .before .before .before .before .before .before .before .clip-triangle .ensures) in omega (arith, few, c .before .before .before .before .before .before .before .before .before .before .before .loop-test .taken, c .before .before .before .before .before .before .before .before .before .before .before .before .loop .inv .2)
 
--- src/lib.rt:218:5
-loop-less : tie.Need-loop-less Inv-loop μ-loop
-loop-less c = search needs
-
--- src/lib.rt:218:5
 loop-again : tie.Need-loop-again Inv-loop μ-loop
 unfolding fanStep
 loop-again c = (fill-more (c .before .before .before .before .before .before .before .before .before .before .before .before .loop .inv .0) (omega (arith, c .before .before .before .before .before .before .before .before .before .before .before .loop-test .taken, c .before .before .before .before .before .before .before .before .before .before .before .before .loop .inv)) (c .before .before .before .before .raster-clipped .ensures .0 ∙ rw (c .before .before .before .before .before .before .before .corner3 .ensures, c .before .before .before .before .before .before .before .before .before .corner2 .ensures, c .before .before .before .before .before .before .before .before .before .before .before .before .before .corner .ensures)) (c .before .before .before .before .raster-clipped .kept .0) (c .before .before .before .before .raster-clipped .kept .1 .0), omega (arith, c .before .before .before .before .raster-clipped .ensures .1), c .before .before .before .before .before .before .before .before .before .before .before .before .loop .inv .2)
 
--- src/lib.rt:190:1
 same-length : tie.Need-same-length Inv-loop μ-loop
 same-length c = c .before .loop .inv .0 .colors-long
 
--- src/lib.rt:190:1
 same-length-2 : tie.Need-same-length-2 Inv-loop μ-loop
 same-length-2 c = c .before .loop .inv .0 .depths-long
 
--- src/lib.rt:190:1
 returns-2 : tie.Need-returns-2 Inv-loop μ-loop
 returns-2 c = fill-end (c .before .loop .inv .0) (omega (arith, c .loop-test .left, c .before .loop .inv)) ∙ fan-drawn _ _ _ _ _ (omega arith) (c .before .before .before .before .before .before .clip-triangle .ensures)
 
@@ -109,24 +58,6 @@ pub draw-fan-spec : {M : Type 1} → statement M
 draw-fan-spec =
     tie.close
     (tie.spec
-    Inv-loop
-    μ-loop
-    slice-aggregate-clip-triangle
-    clip-triangle-requires
-    returns
-    slice-aggregate-corner
-    corner-requires
-    sub-i-end
-    loop-holds
-    slice-aggregate-corner-2
-    corner-requires-2
-    slice-aggregate-corner-3
-    add-corner
-    corner-requires-3
-    raster-clipped-requires
-    add-i
-    loop-less
-    loop-again
-    same-length
-    same-length-2
-    returns-2)
+    Inv-loop μ-loop (λ c. search needs) (λ c κs. search needs) returns (λ c. search needs) (λ c κs. search needs)
+    (λ c. search needs) loop-holds (λ c. search needs) corner-requires-2 (λ c. search needs) (λ c. search needs)
+    corner-requires-3 raster-clipped-requires add-i (λ c. search needs) loop-again same-length same-length-2 returns-2)

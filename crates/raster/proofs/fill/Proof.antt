@@ -9,9 +9,6 @@ use Rattle.raster.specs.Fill.{rowOf, fillOf}
 use Rattle.raster.proofs.Fills.{Filling, fill-more, fill-end}
 use Rattle.raster.proofs.fill.Statement.{statement}
 use Rattle.raster.proofs.fill.Tie as tie
-use Rattle.raster.proofs.fill.Reads as reads
-use Rattle.raster.proofs.fill.Lts as lts
-use Rattle.raster.proofs.fill_row.Reads as fill-row-reads
 
 abbrev Inv-loop : tie.InvT-loop
 Inv-loop colors₀ depths₀ store table state stages count textures t width pixels written n₀ py₀ py-end colors depths n py =
@@ -24,36 +21,22 @@ Inv-loop colors₀ depths₀ store table state stages count textures t width pix
 abbrev μ-loop : tie.MeasureT-loop
 μ-loop colors₀ depths₀ store table state stages count textures t width pixels written n₀ py₀ py-end colors depths n py = pixels .y1 - py
 
--- src/lib.rt:119:5
 loop-holds : tie.Need-loop-holds Inv-loop μ-loop
 unfolding fillOf
 loop-holds c = (record { rest = refl; colors-long = refl; depths-long = refl }, omega arith, omega arith, refl)
 
--- src/lib.rt:120:9
 fill-row-requires : tie.Need-fill-row-requires Inv-loop μ-loop
 fill-row-requires c κs = (c .before .before .before .before .before .before .before .pre .0, (c .before .before .before .before .before .before .before .pre .1 .0, ((omega (arith, c .before .before .before .before .before .before .before .pre), omega (arith, c .before .before .before .before .before .before .before .pre), omega (arith, c .before .before .before .before .before .before .before .pre), omega (arith, c .before .before .before .before .before .before .before .pre, c .before .before .before .loop .inv)), (omega (arith, c .before .before .before .before .before .before .before .pre, c .before .before .before .loop .inv .0 .depths-long, row-within (c .before .before .before .before .before .before .before .args .width) (c .before .before .loop-test .taken)), omega (arith, c .before .before .before .before .before .before .before .pre, c .before .before .before .loop .inv .0 .depths-long, c .before .before .before .loop .inv .0 .colors-long)))))
 
--- src/lib.rt:119:9
-add-py : tie.Need-add-py Inv-loop μ-loop
-add-py c = search needs
-
--- src/lib.rt:119:5
-loop-less : tie.Need-loop-less Inv-loop μ-loop
-loop-less c = search needs
-
--- src/lib.rt:119:5
 loop-again : tie.Need-loop-again Inv-loop μ-loop
 loop-again c = (fill-more (c .before .before .before .before .before .before .before .before .loop .inv .0) (c .before .before .before .before .before .before .before .loop-test .taken) (c .before .before .before .before .fill-row .ensures .0) (c .before .before .before .before .fill-row .kept .0) (c .before .before .before .before .fill-row .kept .1 .0), omega (arith, c .before .before .before .before .fill-row .ensures .1), omega (arith, c .before .before .before .before .fill-row .ensures .1), c .before .before .before .before .before .before .before .before .loop .inv .3)
 
--- src/lib.rt:98:1
 same-length : tie.Need-same-length Inv-loop μ-loop
 same-length c = c .before .loop .inv .0 .colors-long
 
--- src/lib.rt:98:1
 same-length-2 : tie.Need-same-length-2 Inv-loop μ-loop
 same-length-2 c = c .before .loop .inv .0 .depths-long
 
--- src/lib.rt:98:1
 returns : tie.Need-returns Inv-loop μ-loop
 returns c = (fill-end (c .before .loop .inv .0) (c .loop-test .left), omega (arith, c .before .before .before .before .before .pre))
 
@@ -61,13 +44,5 @@ pub fill-spec : {M : Type 1} → statement M
 fill-spec =
     tie.close
     (tie.spec
-    Inv-loop
-    μ-loop
-    loop-holds
-    fill-row-requires
-    add-py
-    loop-less
-    loop-again
-    same-length
-    same-length-2
+    Inv-loop μ-loop loop-holds fill-row-requires (λ c. search needs) (λ c. search needs) loop-again same-length same-length-2
     returns)
