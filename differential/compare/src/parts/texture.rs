@@ -1,6 +1,6 @@
 //! Texture objects: sequences of define_level, patch_level and set_parameter on several textures over one store.
 //! What is done is held to texture.rs's Texture; refusals, which the Rust has not, to a plain reading of document 01.
-use crate::{shrink, Ctx, Part, Rng};
+use crate::{shrink, Ctx, Part, Record, Rng};
 use oracle::consts::*;
 use oracle::texture::{probe, Filter, MinFilter, Texture, Wrap};
 use port::texture as port;
@@ -11,7 +11,7 @@ pub const PART: Part = Part {
     about: "define_level, patch_level and set_parameter in sequences on four textures",
     cases: 60_000,
     run,
-    record: None,
+    record: Some(record),
 };
 
 const LEVELS: usize = 11;
@@ -668,5 +668,117 @@ fn run(ctx: &mut Ctx) {
         ("calls on a changed layout", 50_000),
     ] {
         ctx.floor(what, n);
+    }
+}
+
+// ---- the record
+
+/// A texture of the Rust with the levels of a record, their bytes taken from the store.
+fn rust_texture(book: &Book, store: &[u8]) -> Texture {
+    let mut texture = Texture::default();
+    for k in 0..LEVELS {
+        let level = book.levels[k];
+        if level.kept {
+            let place = level.place as usize;
+            texture.define_level(k as u32, level.width, level.height, store[place..place + level.size() as usize].to_vec());
+        }
+    }
+    texture.min_filter = min_filter(book.min).expect("a known code");
+    texture.mag_filter = filter(book.mag).expect("a known code");
+    texture.wrap_s = wrap(book.wrap_s).expect("a known code");
+    texture.wrap_t = wrap(book.wrap_t).expect("a known code");
+    texture
+}
+
+/// The record and store that the Rust's texture gives, its levels at the places of `book`.
+fn from_rust(texture: &Texture, book: &Book, store: &mut [u8]) -> Book {
+    let mut out = book.clone();
+    for k in 0..LEVELS {
+        out.levels[k] = match probe::kept_level(texture, k as u32) {
+            None => Level::ABSENT,
+            Some((width, height, rgba)) => {
+                let place = book.levels[k].place;
+                if !rgba.is_empty() {
+                    store[place as usize..place as usize + rgba.len()].copy_from_slice(rgba);
+                }
+                Level { kept: true, place, width, height }
+            }
+        };
+    }
+    out.top = u64::from(probe::max_mipmap_level(texture));
+    let code = |codes: &[u32], is: &dyn Fn(u32) -> bool| codes.iter().copied().find(|&c| is(c)).expect("a code for each value");
+    out.min = code(&VALUES, &|c| min_filter(c) == Some(texture.min_filter));
+    out.mag = code(&VALUES, &|c| filter(c) == Some(texture.mag_filter));
+    out.wrap_s = code(&VALUES, &|c| wrap(c) == Some(texture.wrap_s));
+    out.wrap_t = code(&VALUES, &|c| wrap(c) == Some(texture.wrap_t));
+    out
+}
+
+/// The checksum of crates/replay.
+fn sum(bytes: &[u8]) -> u32 {
+    bytes.iter().fold(0u64, |sum, &b| (sum * 257 + u64::from(b) + 1) % 4_294_967_291) as u32
+}
+
+/// An entry: the call's kind; five numbers (4 bytes each); the place (8); the length of the image, its seed, the length of
+/// the store (4, 1, 4); the answer; the checksums of the record's layout and of the store after it (4 each); the layout before.
+fn entry(record: &mut Record, book: &Book, store: usize, call: &Call) {
+    let before = start(store);
+    let number = told(book, &before, call).faults.first().copied().unwrap_or(0);
+    let (mut after, mut bytes) = (book.clone(), before.clone());
+    if number == 0 {
+        // A setting looks at no level, whatever the record says of them.
+        let levels = if matches!(call.op, Op::Set { .. }) { Book::new().levels } else { book.levels };
+        let mut texture = rust_texture(&Book { levels, ..book.clone() }, &before);
+        rust_call(&mut texture, call);
+        if let Op::Define { level, place, .. } = call.op {
+            after.levels[level as usize].place = place as u64;
+        }
+        let rust = from_rust(&texture, &Book { levels: after.levels, ..book.clone() }, &mut bytes);
+        after = if matches!(call.op, Op::Set { .. }) { Book { levels: book.levels, top: book.top, ..rust } } else { rust };
+    }
+    let (kind, numbers, place, n) = match call.op {
+        Op::Define { level, width, height, place, bytes } => (0u8, [level, width, height, 0, 0], place, bytes),
+        Op::Patch { level, rect: [x, y, width, height], bytes } => (1, [level, x, y, width, height], 0, bytes),
+        Op::Set { pname, value } => (2, [pname, value, 0, 0, 0], 0, 0),
+    };
+    let mut out = vec![kind];
+    for number in numbers {
+        out.extend(number.to_le_bytes());
+    }
+    out.extend((place as u64).to_le_bytes());
+    out.extend((n as u32).to_le_bytes());
+    out.push(call.image);
+    out.extend((store as u32).to_le_bytes());
+    out.push(number as u8);
+    out.extend(sum(&after.bytes()).to_le_bytes());
+    out.extend(sum(&bytes).to_le_bytes());
+    out.extend(book.bytes());
+    record.entry(&out);
+}
+
+fn record(record: &mut Record) {
+    let mut rng = Rng::named(1, "texture/record", 0);
+    for _ in 0..60 {
+        let input = sequence(&mut rng, &[0, 16, 64, 300, 1000], 24);
+        let mut books = vec![Book::new(); TEXTURES];
+        for call in &input.calls {
+            let mut book = books[call.texture].clone();
+            if let Some((word, value)) = call.damage {
+                let mut layout = book.bytes();
+                layout[4 * word..4 * word + 4].copy_from_slice(&value.to_le_bytes());
+                book = Book::read(&layout);
+            }
+            // A layout whose codes have no value is no record; what stands in an absent level is ignored.
+            if !book.known() {
+                continue;
+            }
+            for level in book.levels.iter_mut().filter(|level| !level.kept) {
+                *level = Level::ABSENT;
+            }
+            entry(record, &book, input.store, call);
+            if call.damage.is_none() {
+                books[call.texture] = told(&book, &start(input.store), call).book;
+            }
+        }
     }
 }
