@@ -63,23 +63,30 @@ impl Workload for Define {
     }
 }
 
-/// A patch of 64 by 64 texels inside a level of 256 by 256.
+/// A patch of 64 by 64 texels inside a level of 256 by 256, of one texture after the other: how fast a copy is depends on where in memory
+/// its two ends lie, and over several textures neither side has the better places.
 struct Patch {
     patch: Vec<u8>,
-    record: Vec<u8>,
-    store: Vec<u8>,
-    rust: Texture,
+    port: Vec<(Vec<u8>, Vec<u8>)>,
+    rust: Vec<Texture>,
 }
+
+const TEXTURES: usize = 8;
 
 impl Patch {
     fn new() -> Self {
-        let mut record = new_record();
-        let mut store = vec![0; BYTES];
-        let level = image(BYTES, 9);
-        assert_eq!(port::texture::define_level(&mut record, &mut store, 0, SIDE, SIDE, 0, &level), 0);
-        let mut rust = Texture::default();
-        rust.define_level(0, SIDE, SIDE, level);
-        Self { patch: image(4 * (PATCH * PATCH) as usize, 77), record, store, rust }
+        let (mut port, mut rust) = (Vec::new(), Vec::new());
+        for _ in 0..TEXTURES {
+            let mut record = new_record();
+            let mut store = vec![0; BYTES];
+            let level = image(BYTES, 9);
+            assert_eq!(port::texture::define_level(&mut record, &mut store, 0, SIDE, SIDE, 0, &level), 0);
+            let mut texture = Texture::default();
+            texture.define_level(0, SIDE, SIDE, level);
+            port.push((record, store));
+            rust.push(texture);
+        }
+        Self { patch: image(4 * (PATCH * PATCH) as usize, 77), port, rust }
     }
 }
 
@@ -89,23 +96,27 @@ impl Workload for Patch {
     }
 
     fn bar(&self) -> Option<f64> {
-        None
+        Some(1.0)
     }
 
     fn units(&self) -> u64 {
-        u64::from(4 * PATCH * PATCH)
+        TEXTURES as u64 * u64::from(4 * PATCH * PATCH)
     }
 
     fn port(&mut self) {
-        let number = port::texture::patch_level(&self.record, black_box(&mut self.store), 0, [100, 60, PATCH, PATCH], black_box(&self.patch));
-        assert_eq!(number, 0);
+        for (record, store) in &mut self.port {
+            let number = port::texture::patch_level(record, black_box(store), 0, [100, 60, PATCH, PATCH], black_box(&self.patch));
+            assert_eq!(number, 0);
+        }
     }
 
     fn rust(&mut self) {
-        black_box(&mut self.rust).patch_level(0, 100, 60, PATCH, PATCH, black_box(&self.patch)).expect("inside the level");
+        for texture in &mut self.rust {
+            black_box(texture).patch_level(0, 100, 60, PATCH, PATCH, black_box(&self.patch)).expect("inside the level");
+        }
     }
 
     fn agree(&self) -> bool {
-        self.store == self.rust.rgba
+        self.port.iter().zip(&self.rust).all(|((_, store), texture)| *store == texture.rgba)
     }
 }

@@ -67,21 +67,20 @@ pub extern "C" fn tf_patch_level(
 ) -> u32
     ensures { λ r. ⌜ lent r (now (layout .entry)) (now (store .exit)) ≡ patchCall (now (layout .entry)) (now (store .entry)) level xoffset yoffset width height (now (patch .entry)) ⌝ }
 {
-    let read = layouts::read_record(layout);
-    if !read.known {
+    if !layouts::is_known(layout) {
         return 255;
     }
-    let texture = read.texture;
-    let answer = texture::patch_level(
-        store,
-        texture,
-        level,
-        xoffset,
-        yoffset,
-        width,
-        height,
-        patch,
-    );
+    if !layouts::is_valid_at(layout, store.len()) {
+        return 8;
+    }
+    if 10 < level {
+        return 12;
+    }
+    let m = layouts::image_level_at(layout, level as usize);
+    if !m.present {
+        return 12;
+    }
+    let answer = texture::patch_in_level(store, m, xoffset, yoffset, width, height, patch);
     answer.number()
 }
 
