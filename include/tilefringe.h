@@ -5,11 +5,16 @@
  *    1  target side above 4,096, or lengths of colours or depths that do not fit its sides
  *    2  scissor number outside -8,192 to 8,192
  *    4  a float that is not finite, or above 1,048,576 in magnitude
- *    9  image side above 1,024
- *   11  too few bytes
+ *    8  texture record with a level past the store, levels that overlap, a side above 1,024, or a wrong top level
+ *    9  image side above 1,024, or level above 10
+ *   10  place past the store, or over a level of the same texture that stays
+ *   11  too few bytes; for a define, not 4 x width x height
+ *   12  level absent or above 10
+ *   13  rectangle past the level
  *   14  unknown format or type
  *   15  output not 4 x width x height bytes
  *   16  unknown code
+ *  255  no call of document 01: a record's layout of another length, or with an unknown code
  *
  * A slice is a pointer and a length; a pointer with length 0 may be any that is not used otherwise.
  */
@@ -54,6 +59,24 @@ uint32_t tf_to_rgb565(const uint8_t *colors, size_t colors_len, size_t depths_le
 /* Whether the code of a comparison, or of a blend factor, is known: 0 or 16. */
 uint32_t tf_compare_func(uint32_t code);
 uint32_t tf_blend_factor(uint32_t code);
+
+/* The bytes of a texture record's layout: docs/INTERFACE.md. */
+#define TF_TEXTURE_RECORD 244
+
+/* Writes the default record. Answers 0 or 255. */
+uint32_t tf_new_texture(uint8_t *record, size_t record_len);
+
+/* Puts an image at a place in the store and enters its level in the record. Answers 0, 9, 8, 11, 10 or 255. */
+uint32_t tf_define_level(uint8_t *record, size_t record_len, uint8_t *store, size_t store_len, uint32_t level,
+                         uint32_t width, uint32_t height, size_t place, const uint8_t *rgba, size_t rgba_len);
+
+/* Puts a patch into a rectangle of a level's texels. Answers 0, 8, 12, 13, 11 or 255. */
+uint32_t tf_patch_level(const uint8_t *record, size_t record_len, uint8_t *store, size_t store_len, uint32_t level,
+                        uint32_t xoffset, uint32_t yoffset, uint32_t width, uint32_t height, const uint8_t *patch,
+                        size_t patch_len);
+
+/* Sets a filter or a wrap, or nothing for a code without effect. Answers 0, 16 or 255. */
+uint32_t tf_set_parameter(uint8_t *record, size_t record_len, uint32_t pname, uint32_t value);
 
 #ifdef __cplusplus
 }

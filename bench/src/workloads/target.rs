@@ -128,9 +128,8 @@ impl Workload for Export {
         "to_rgb565"
     }
 
-    /// The goal of 1.0 is not met yet (docs/BENCHMARKS.md), so the check does not hold it to a bar.
     fn bar(&self) -> Option<f64> {
-        None
+        Some(1.0)
     }
 
     fn units(&self) -> u64 {

@@ -1,18 +1,42 @@
 // The colours of a render target as 5-6-5 (raster.rs, RenderTarget::to_rgb565).
 ghost use mathlib.Core.Path.{_≡_};
 ghost use mathlib.Core.List.{_++_};
-ghost use Prim.Native.Nat.{ℕ, _*_, _≤_};
-ghost use lib.ListN.{length, drop};
+ghost use Prim.Native.Nat.{_+_, _*_, _/_, _%_, _≤_, _<_};
+ghost use lib.ListN.{length, getD, drop};
 ghost use Rattle.lists.specs.Lists.{flat};
 ghost use Rattle.answers.specs.Numbers.{numberOf};
 ghost use Rattle.export.specs.Export.{packed, rgb565At, exportedOf, exportCheck, rgb565Of};
 use answers::Answer;
 use answers::Refusal;
 
-fn pack(r: u8, g: u8, b: u8) -> u16
-    ensures { λ v. ⌜ v ≡ packed r g b ⌝ }
+fn wide(b: u8) -> u32
+    ensures { λ r. ⌜ (r ≡ b) × (r < 256) ⌝ }
 {
-    (r as u16 / 8) * 2048 + (g as u16 / 4) * 32 + b as u16 / 8
+    b as u32
+}
+
+// A pixel's four bytes as one number, by which they are read at once: five bits of red, six of green and five of blue stand in it.
+fn word(colors: &[u8], at: usize) -> u32
+    requires { ⌜ at + 4 ≤ length (now colors) ⌝ }
+    ensures { λ r. ⌜ (r / 8 % 32 ≡ getD (now (colors .entry)) at 0 / 8) × (r / 1024 % 64 ≡ getD (now (colors .entry)) (at + 1) 0 / 4) × (r / 524288 % 32 ≡ getD (now (colors .entry)) (at + 2) 0 / 8) ⌝ }
+{
+    wide(colors[at])
+        + 256 * wide(colors[at + 1])
+        + 65536 * wide(colors[at + 2])
+        + 16777216 * wide(colors[at + 3])
+}
+
+fn pack(x: u32) -> u16
+    ensures { λ v. ⌜ v ≡ x / 8 % 32 * 2048 + x / 1024 % 64 * 32 + x / 524288 % 32 ⌝ }
+{
+    ((x / 8 % 32) * 2048 + (x / 1024 % 64) * 32 + x / 524288 % 32) as u16
+}
+
+fn pixel(colors: &[u8], at: usize) -> u16
+    requires { ⌜ at + 4 ≤ length (now colors) ⌝ }
+    ensures { λ v. ⌜ v ≡ packed (getD (now (colors .entry)) at 0) (getD (now (colors .entry)) (at + 1) 0) (getD (now (colors .entry)) (at + 2) 0) ⌝ }
+{
+    pack(word(colors, at))
 }
 
 fn export_pixels(colors: &[u8], n: usize, out: &mut [u8])
@@ -20,8 +44,7 @@ fn export_pixels(colors: &[u8], n: usize, out: &mut [u8])
     ensures { λ _. ⌜ now (out .exit) ≡ flat n (rgb565At (now (colors .entry))) ++ drop (n * 2) (now (out .entry)) ⌝ }
 {
     for p in 0..n {
-        let i = p * 4;
-        let v = pack(colors[i], colors[i + 1], colors[i + 2]);
+        let v = pixel(colors, p * 4);
         out[p * 2] = (v % 256) as u8;
         out[p * 2 + 1] = (v / 256) as u8;
     }

@@ -1,2 +1,3 @@
 pub mod RoundTrip
 pub mod Pasted
+pub mod Lone

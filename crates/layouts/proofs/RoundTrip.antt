@@ -257,3 +257,7 @@ known-length b e = here (eqb (length b) 244) refl e
         → cond {A = RecordRead} c (record { known = codesKnown b; texture = readTexture b }) (record { known = false; texture = newTexture }) .known ≡ true → length b ≡ 244
     here true q e = eqb-true (length b) 244 q
     here false q e = absurd (true-false (sym e))
+
+pub known-texture : (b : List ℕ) → readOf b .known ≡ true → readTexture b ≡ readOf b .texture
+unfolding readOf
+known-texture b e = rw (eq-eqb (length b) 244 (known-length b e)) refl

@@ -9,10 +9,11 @@ use texture::MinFilterCode;
 use texture::WrapCode;
 ghost use mathlib.Core.Path.{_≡_};
 ghost use mathlib.Core.List.{_++_};
-ghost use mathlib.Core.Bool.{cond};
-ghost use Prim.Native.Nat.{_+_, _*_, _%_, _≤_, _<_};
+ghost use mathlib.Core.Bool.{true, cond};
+ghost use Prim.Native.Nat.{ℕ, _+_, _*_, _%_, _≤_, _<_};
 ghost use lib.ListN.{length, drop};
 ghost use Rattle.lists.specs.Lists.{tab, flat};
+ghost use Rattle.levels.specs.Levels.{levelOf, validOf};
 ghost use Rattle.texture.specs.Parameters.{minFilterOf, filterOf, wrapOf};
 ghost use Rattle.layouts.specs.Words.{word, long};
 ghost use Rattle.layouts.specs.Records.{readLevel, minKnown, minOr, magKnown, magOr, wrapKnown, wrapOr, codesKnown, readTexture, readOf, levelBytes, levelBytesAt, minCode, magCode, wrapCode, restBytes, recordBytes};
@@ -183,6 +184,64 @@ pub fn read_record(b: &[u8]) -> RecordRead
     let known = are_codes_known(b);
     let texture = texture_at(b);
     RecordRead { known, texture }
+}
+
+// Whether a layout holds a record.
+pub fn is_known(b: &[u8]) -> bool
+    ensures { λ r. ⌜ r ≡ readOf (now (b .entry)) .known ⌝ }
+{
+    if b.len() == 244 {
+        return are_codes_known(b);
+    }
+    false
+}
+
+// Level k of the record that a layout holds.
+pub fn image_level_at(b: &[u8], k: usize) -> MipLevel
+    requires { ⌜ (k < 11) × (length (now b) ≡ 244) ⌝ }
+    ensures { λ r. ⌜ r ≡ levelOf (readTexture (now (b .entry))) k ⌝ }
+{
+    let m = level_at(b, k);
+    if k == 0 {
+        return MipLevel {
+            present: true,
+            place: m.place,
+            width: m.width,
+            height: m.height,
+        };
+    }
+    m
+}
+
+// Whether levels 1 to 10 are absent.
+fn is_lone(b: &[u8]) -> bool
+    requires { ⌜ length (now b) ≡ 244 ⌝ }
+    ensures { λ r. ⌜ (r ≡ true → (k : ℕ) → 0 < k → k < 11 → word (now (b .entry)) (k * 20) ≡ 0) ⌝ }
+{
+    for i in 1..11 {
+        if word_at(b, i * 20) != 0 {
+            return false;
+        }
+    }
+    true
+}
+
+// Whether the record that a layout holds is valid over a store of `len` bytes. One of level 0 alone, the usual texture without mipmaps, is
+// told from the layout as it stands.
+pub fn is_valid_at(b: &[u8], len: usize) -> bool
+    requires { ⌜ length (now b) ≡ 244 ⌝ }
+    ensures { λ r. ⌜ r ≡ validOf len (readTexture (now (b .entry))) ⌝ }
+{
+    if is_lone(b) {
+        let m = image_level_at(b, 0);
+        if !levels::does_fit(m, len) {
+            return false;
+        }
+        return long_at(b, 220) == 0;
+    }
+    let read = read_record(b);
+    let texture = read.texture;
+    levels::is_valid(texture, len)
 }
 
 fn low_byte(n: u64) -> u8

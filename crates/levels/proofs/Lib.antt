@@ -1,3 +1,4 @@
 pub mod Chain
 pub mod Valid
+pub mod Lone
 pub mod Apart

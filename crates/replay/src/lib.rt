@@ -55,7 +55,7 @@ fn wide(b: u8) -> u64
     b as u64
 }
 
-fn sum_bytes(sum: u64, bytes: &[u8]) -> u64
+pub fn sum_bytes(sum: u64, bytes: &[u8]) -> u64
     ensures { λ r. ⌜ r ≡ sumOf sum (now (bytes .entry)) ⌝ }
 {
     let mut s = sum;

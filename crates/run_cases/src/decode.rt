@@ -1,23 +1,13 @@
 // Sides 1,024 and 1,025 of a plain image, a compressed one and a size query.
+use crate::lines;
 use compressed::Sized;
-
-fn told(name: &[u8], width: u32, height: u32, number: u32) {
-    io::write_all(1, name);
-    io::write_all(1, b" ");
-    io::print_decimal(1, width as u64);
-    io::write_all(1, b" by ");
-    io::print_decimal(1, height as u64);
-    io::write_all(1, b": ");
-    io::print_decimal(1, number as u64);
-    io::write_all(1, b"\n");
-}
 
 // An image of alphas.
 fn plain(width: u32, height: u32) {
     let s = [0u8; 1024];
     let mut out = [0u8; 4096];
     let answer = texels::decode_to_rgba(&s, width, height, 0x1906, 0x1401, &mut out);
-    told(b"plain", width, height, answer.number());
+    lines::told(b"plain", width, height, answer.number());
 }
 
 // An image of GL_PALETTE8_RGB8_OES.
@@ -25,7 +15,7 @@ fn paletted(width: u32, height: u32) {
     let s = [0u8; 1792];
     let mut out = [0u8; 4096];
     let answer = compressed::decode_compressed_to_rgba(&s, width, height, 0x8B95, &mut out);
-    told(b"compressed", width, height, answer.number());
+    lines::told(b"compressed", width, height, answer.number());
 }
 
 fn refusal(sized: Sized) -> u32 {
@@ -36,7 +26,7 @@ fn refusal(sized: Sized) -> u32 {
 }
 
 fn size(width: u32, height: u32) {
-    told(
+    lines::told(
         b"size",
         width,
         height,

@@ -13,9 +13,9 @@ ghost use lib.ListN.{length};
 ghost use lib.Seq.{paste};
 ghost use Rattle.lists.specs.Lists.{all, iter};
 ghost use Rattle.answers.specs.Numbers.{numberOf};
-ghost use Rattle.levels.specs.Levels.{absent, levelAt, levelsOf, levelOf, fits, sizeOf, validOf};
+ghost use Rattle.levels.specs.Levels.{absent, levelAt, levelsOf, levelOf, fits, sizeOf, validOf, Fits};
 ghost use Rattle.texture.specs.Define.{stays, stay, placeCheck, recordCheck, defineCheck, enterLevel, defineRecord, Outcome, outcome, defineOf};
-ghost use Rattle.texture.specs.Patch.{rectangleCheck, patchCheck, patchRow, patchStore, patched, patchOf};
+ghost use Rattle.texture.specs.Patch.{rectangleCheck, patchRow, patchStore, patched, settlePatch, patchOf};
 ghost use Rattle.texture.specs.Parameters.{minFilterOf, filterOf, wrapOf, ignored, minFilterCheck, filterCheck, wrapCheck, withMinFilter, withMagFilter, withWrapS, withWrapT, setting, setOf};
 
 // What define_level answers, with the record as it leaves it.
@@ -158,6 +158,29 @@ pub fn copy_in(store: &mut [u8], place: usize, src: &[u8])
     }
 }
 
+// The same by way of a row that is lent.
+fn copy_through(row: &mut [u8], store: &mut [u8], place: usize, src: &[u8])
+    requires { ⌜ (place + length (now src) ≤ length (now store)) × (length (now src) ≤ length (now row)) ⌝ }
+    ensures { λ _. ⌜ now (store .exit) ≡ paste (now (store .entry)) place (now (src .entry)) (length (now (src .entry))) ⌝ }
+{
+    let n = src.len();
+    copy_in(row, 0, src);
+    copy_in(store, place, &row[..n]);
+}
+
+// The same. The compiler does not know that store and src lie apart; a row of its own lies apart from both, and with it the bytes are moved as one piece.
+fn copy_row(store: &mut [u8], place: usize, src: &[u8])
+    requires { ⌜ place + length (now src) ≤ length (now store) ⌝ }
+    ensures { λ _. ⌜ now (store .exit) ≡ paste (now (store .entry)) place (now (src .entry)) (length (now (src .entry))) ⌝ }
+{
+    if 4096 < src.len() {
+        copy_in(store, place, src);
+        return;
+    }
+    let mut row = [0u8; 4096];
+    copy_through(&mut row, store, place, src);
+}
+
 // Puts an image's bytes at `place` in the store and enters the level in the record.
 pub fn define_level(
     store: &mut [u8],
@@ -224,32 +247,6 @@ fn rectangle_check(
     Answer::Done
 }
 
-fn patch_check(
-    texture: Texture,
-    len: usize,
-    level: u32,
-    xoffset: u32,
-    yoffset: u32,
-    width: u32,
-    height: u32,
-    bytes: usize,
-) -> Answer
-    ensures { λ r. ⌜ numberOf r ≡ patchCheck len texture level xoffset yoffset width height bytes ⌝ }
-{
-    if !levels::is_valid(texture, len) {
-        return Answer::Refused(Refusal::Record);
-    }
-    if 10 < level {
-        return Answer::Refused(Refusal::Level);
-    }
-    let levels = texture.levels;
-    let m = levels::image_level(levels, level as usize);
-    if m.present {
-        return rectangle_check(m, xoffset, yoffset, width, height, bytes);
-    }
-    Answer::Refused(Refusal::Level)
-}
-
 // Row r of a patch that is `width` texels wide.
 fn patch_row(
     store: &mut [u8],
@@ -266,7 +263,7 @@ fn patch_row(
     let at = m.place + ((y + r) * (m.width as usize) + x) * 4;
     let from = r * (width * 4);
     let end = from + width * 4;
-    copy_in(store, at, &patch[from..end]);
+    copy_row(store, at, &patch[from..end]);
 }
 
 fn patch_rows(
@@ -286,6 +283,37 @@ fn patch_rows(
     }
 }
 
+// Puts a patch's rows into a rectangle of the texels of a level that lies within the store.
+pub fn patch_in_level(
+    store: &mut [u8],
+    m: MipLevel,
+    xoffset: u32,
+    yoffset: u32,
+    width: u32,
+    height: u32,
+    patch: &[u8],
+) -> Answer
+    requires { ⌜ Fits (length (now store)) m ⌝ }
+    ensures { λ r. ⌜ patched (numberOf r) (now (store .exit)) ≡ settlePatch (rectangleCheck m xoffset yoffset width height (length (now (patch .entry)))) (now (store .entry)) (patchStore m xoffset yoffset width height (now (patch .entry)) (now (store .entry))) ⌝ }
+{
+    let answer = rectangle_check(m, xoffset, yoffset, width, height, patch.len());
+    match answer {
+        Answer::Refused(why) => Answer::Refused(why),
+        Answer::Done => {
+            patch_rows(
+                store,
+                m,
+                xoffset as usize,
+                yoffset as usize,
+                width as usize,
+                height as usize,
+                patch,
+            );
+            Answer::Done
+        }
+    }
+}
+
 // Puts a patch's rows into a rectangle of a level's texels.
 pub fn patch_level(
     store: &mut [u8],
@@ -299,33 +327,18 @@ pub fn patch_level(
 ) -> Answer
     ensures { λ r. ⌜ patched (numberOf r) (now (store .exit)) ≡ patchOf (now (store .entry)) texture level xoffset yoffset width height (now (patch .entry)) ⌝ }
 {
-    let answer = patch_check(
-        texture,
-        store.len(),
-        level,
-        xoffset,
-        yoffset,
-        width,
-        height,
-        patch.len(),
-    );
-    match answer {
-        Answer::Refused(why) => Answer::Refused(why),
-        Answer::Done => {
-            let levels = texture.levels;
-            let m = levels::image_level(levels, level as usize);
-            patch_rows(
-                store,
-                m,
-                xoffset as usize,
-                yoffset as usize,
-                width as usize,
-                height as usize,
-                patch,
-            );
-            Answer::Done
-        }
+    if !levels::is_valid(texture, store.len()) {
+        return Answer::Refused(Refusal::Record);
     }
+    if 10 < level {
+        return Answer::Refused(Refusal::Level);
+    }
+    let levels = texture.levels;
+    let m = levels::image_level(levels, level as usize);
+    if !m.present {
+        return Answer::Refused(Refusal::Level);
+    }
+    patch_in_level(store, m, xoffset, yoffset, width, height, patch)
 }
 
 // A code's value, where it has one.

@@ -6,3 +6,4 @@ pub mod settings;
 pub mod target;
 pub mod sampler;
 pub mod texels;
+pub mod texture;

@@ -20,29 +20,11 @@ abbrev μ-loop : tie.MeasureT-loop
 loop-holds : tie.Need-loop-holds Inv-loop μ-loop
 loop-holds c = (export-none (c .before .before .args .colors .now) (c .before .before .args .out .now), refl, omega arith)
 
-mul-i : tie.Need-mul-i Inv-loop μ-loop
-mul-i c = omega (arith, c .before .loop .inv, c .loop-test .taken, c .before .before .before .before .pre)
-
-shared-slice-read-pack : tie.Need-shared-slice-read-pack Inv-loop μ-loop
-shared-slice-read-pack c = omega (arith, c .before .before .loop .inv, c .before .loop-test .taken, c .before .before .before .before .before .pre)
-
-add-pack : tie.Need-add-pack Inv-loop μ-loop
-add-pack c = omega (arith, c .before .before .loop .inv, c .before .loop-test .taken, c .before .before .before .before .before .pre)
-
-shared-slice-read-pack-2 : tie.Need-shared-slice-read-pack-2 Inv-loop μ-loop
-shared-slice-read-pack-2 c = omega (arith, c .before .before .before .loop .inv, c .before .before .loop-test .taken, c .before .before .before .before .before .before .pre)
-
-add-pack-2 : tie.Need-add-pack-2 Inv-loop μ-loop
-add-pack-2 c = omega (arith, c .before .before .before .loop .inv, c .before .before .loop-test .taken, c .before .before .before .before .before .before .pre)
-
-shared-slice-read-pack-3 : tie.Need-shared-slice-read-pack-3 Inv-loop μ-loop
-shared-slice-read-pack-3 c = omega (arith, c .before .before .before .before .loop .inv, c .before .before .before .loop-test .taken, c .before .before .before .before .before .before .before .pre)
-
 slice-write-out-2 : tie.Need-slice-write-out-2 Inv-loop μ-loop
-slice-write-out-2 c = simp length-set (omega (arith, c .before .before .before .before .before .loop .inv, c .before .before .before .before .loop-test .taken, c .before .before .before .before .before .before .before .before .pre))
+slice-write-out-2 c = simp length-set (omega (arith, c .before .before .loop .inv, c .before .loop-test .taken, c .before .before .before .before .before .pre))
 
 loop-again : tie.Need-loop-again Inv-loop μ-loop
-loop-again c = (export-more (c .before .before .before .before .before .before .before .before .args .colors .now) (c .before .before .before .before .before .before .before .before .args .out .now) _ (c .before .before .before .before .before .loop .p) (c .pack .result) (c .before .before .before .before .before .loop .inv .0) (c .before .before .before .before .before .loop .inv .1) (omega (arith, c .before .before .before .before .loop-test .taken, c .before .before .before .before .before .before .before .before .pre)) (c .pack .ensures), simp length-set (c .before .before .before .before .before .loop .inv .1), omega (arith, c .before .before .before .before .loop-test .taken))
+loop-again c = (export-more (c .before .before .before .before .before .args .colors .now) (c .before .before .before .before .before .args .out .now) _ (c .before .before .loop .p) (c .pixel .result) (c .before .before .loop .inv .0) (c .before .before .loop .inv .1) (omega (arith, c .before .loop-test .taken, c .before .before .before .before .before .pre)) (c .pixel .ensures), simp length-set (c .before .before .loop .inv .1), omega (arith, c .before .loop-test .taken))
 
 same-length : tie.Need-same-length Inv-loop μ-loop
 same-length c = c .before .loop .inv .1
@@ -51,8 +33,9 @@ returns : tie.Need-returns Inv-loop μ-loop
 returns c = let end : c .before .loop .p ≡ c .before .before .before .before .args .n = omega (arith, c .before .loop .inv, c .loop-test .left) in rw (sym end) (c .before .loop .inv .0)
 
 pub export-pixels-spec : {M : Type 1} → statement M
-export-pixels-spec = tie.close (tie.spec
-    Inv-loop μ-loop loop-holds mul-i shared-slice-read-pack add-pack shared-slice-read-pack-2 add-pack-2
-    shared-slice-read-pack-3 (λ c κs. search needs) (λ c. search needs) (λ c. search needs) (λ c. search needs)
-    (λ c. search needs) (λ c. search needs) (λ c. search needs) slice-write-out-2 (λ c. search needs) (λ c. search needs)
-    loop-again same-length returns)
+export-pixels-spec =
+    tie.close
+    (tie.spec
+    Inv-loop μ-loop loop-holds (λ c. search needs) (λ c κs. search needs) (λ c. search needs) (λ c. search needs)
+    (λ c. search needs) (λ c. search needs) (λ c. search needs) (λ c. search needs) slice-write-out-2 (λ c. search needs)
+    (λ c. search needs) loop-again same-length returns)

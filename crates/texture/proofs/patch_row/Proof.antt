@@ -27,9 +27,9 @@ add-at-3 : tie.Need-add-at-3
 unfolding sizeOf
 add-at-3 c = let a = c .before .before .before .before .args in omega (arith, row-in (a .y + a .r) (a .m .height) (a .m .width) (a .x) (a .width) (omega arith) (omega arith))
 
-copy-in-requires : tie.Need-copy-in-requires
+copy-row-requires : tie.Need-copy-row-requires
 unfolding sizeOf
-copy-in-requires c κs =
+copy-row-requires c κs =
     let a = c .before .before .before .before .before .before .args in
     simp (length-take, length-drop) (omega (arith, row-in (a .y + a .r) (a .m .height) (a .m .width) (a .x) (a .width) (omega arith) (omega arith)))
 
@@ -41,12 +41,12 @@ returns c =
     let from = a .r * n in
     let e : from + n - from ≡ n = omega arith in
     let g : length (take n (drop from (a .patch .now))) ≡ n = length-take-le n (drop from (a .patch .now)) (simp length-drop (omega arith)) in
-    c .before .before .copy-in .ensures ∙ rw (e, g, take-take n n (drop from (a .patch .now)) (le-refl n))
+    c .before .before .copy-row .ensures ∙ rw (e, g, take-take n n (drop from (a .patch .now)) (le-refl n))
 
 pub patch-row-spec : {M : Type 1} → statement M
 patch-row-spec =
     tie.close
     (tie.spec
     (λ c. search needs) (λ c. search needs) mul-at add-at-2 mul-at-2 add-at-3 (λ c. search needs) (λ c. search needs)
-    (λ c. search needs) (λ c. search needs) (λ c. search needs) (λ c. search needs) (λ c. search needs) copy-in-requires
+    (λ c. search needs) (λ c. search needs) (λ c. search needs) (λ c. search needs) (λ c. search needs) copy-row-requires
     (λ c. search needs) returns)

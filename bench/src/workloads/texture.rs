@@ -1,0 +1,122 @@
+//! Texture objects; a unit is a byte.
+use crate::Workload;
+use oracle::texture::Texture;
+use std::hint::black_box;
+
+const SIDE: u32 = 256;
+const BYTES: usize = 4 * (SIDE * SIDE) as usize;
+const PATCH: u32 = 64;
+
+pub fn workloads() -> Vec<Box<dyn Workload>> {
+    vec![Box::new(Define::new()), Box::new(Patch::new())]
+}
+
+fn image(n: usize, seed: u8) -> Vec<u8> {
+    (0..n).map(|i| (i as u8).wrapping_mul(31).wrapping_add(seed)).collect()
+}
+
+fn new_record() -> Vec<u8> {
+    let mut record = vec![0; port::texture::RECORD];
+    assert_eq!(port::texture::new_texture(&mut record), 0);
+    record
+}
+
+/// Level 0 of 256 by 256 texels. The Rust keeps its own texels: it is handed a copy of the image.
+struct Define {
+    image: Vec<u8>,
+    record: Vec<u8>,
+    store: Vec<u8>,
+    rust: Texture,
+}
+
+impl Define {
+    fn new() -> Self {
+        Self { image: image(BYTES, 5), record: new_record(), store: vec![0; BYTES], rust: Texture::default() }
+    }
+}
+
+impl Workload for Define {
+    fn name(&self) -> &'static str {
+        "define_level"
+    }
+
+    fn bar(&self) -> Option<f64> {
+        Some(1.0)
+    }
+
+    fn units(&self) -> u64 {
+        BYTES as u64
+    }
+
+    fn port(&mut self) {
+        let number = port::texture::define_level(&mut self.record, black_box(&mut self.store), 0, SIDE, SIDE, 0, black_box(&self.image));
+        assert_eq!(number, 0);
+    }
+
+    fn rust(&mut self) {
+        let copy = black_box(&self.image).clone();
+        black_box(&mut self.rust).define_level(0, SIDE, SIDE, copy);
+    }
+
+    fn agree(&self) -> bool {
+        self.store == self.rust.rgba
+    }
+}
+
+/// A patch of 64 by 64 texels inside a level of 256 by 256, of one texture after the other: how fast a copy is depends on where in memory
+/// its two ends lie, and over several textures neither side has the better places.
+struct Patch {
+    patch: Vec<u8>,
+    port: Vec<(Vec<u8>, Vec<u8>)>,
+    rust: Vec<Texture>,
+}
+
+const TEXTURES: usize = 8;
+
+impl Patch {
+    fn new() -> Self {
+        let (mut port, mut rust) = (Vec::new(), Vec::new());
+        for _ in 0..TEXTURES {
+            let mut record = new_record();
+            let mut store = vec![0; BYTES];
+            let level = image(BYTES, 9);
+            assert_eq!(port::texture::define_level(&mut record, &mut store, 0, SIDE, SIDE, 0, &level), 0);
+            let mut texture = Texture::default();
+            texture.define_level(0, SIDE, SIDE, level);
+            port.push((record, store));
+            rust.push(texture);
+        }
+        Self { patch: image(4 * (PATCH * PATCH) as usize, 77), port, rust }
+    }
+}
+
+impl Workload for Patch {
+    fn name(&self) -> &'static str {
+        "patch_level"
+    }
+
+    fn bar(&self) -> Option<f64> {
+        Some(1.0)
+    }
+
+    fn units(&self) -> u64 {
+        TEXTURES as u64 * u64::from(4 * PATCH * PATCH)
+    }
+
+    fn port(&mut self) {
+        for (record, store) in &mut self.port {
+            let number = port::texture::patch_level(record, black_box(store), 0, [100, 60, PATCH, PATCH], black_box(&self.patch));
+            assert_eq!(number, 0);
+        }
+    }
+
+    fn rust(&mut self) {
+        for texture in &mut self.rust {
+            black_box(texture).patch_level(0, 100, 60, PATCH, PATCH, black_box(&self.patch)).expect("inside the level");
+        }
+    }
+
+    fn agree(&self) -> bool {
+        self.port.iter().zip(&self.rust).all(|((_, store), texture)| *store == texture.rgba)
+    }
+}
