@@ -2,7 +2,7 @@
 //! of `sample_with_gradients` as near as document 01 lets it be.
 use crate::floats::{mixed, specials};
 use crate::{judged, shrink, Ctx, Part, Record, Rng, Tally};
-use port::sampler::{probe_q_of, samples, steps, Coordinates, Numbers};
+use port::sampler::{layout, probe_q_of, sample, samples, steps, Coordinates, Numbers};
 
 pub const PART: Part = Part {
     name: "sampling",
@@ -554,6 +554,31 @@ fn is_valid(numbers: &Numbers, store: u64) -> bool {
     u64::from(numbers[44]) == top as u64
 }
 
+/// The call of the C interface: the same answer and texel, and 255 for a layout of another length or with an unknown code.
+fn by_layout(tally: &mut Tally, rng: &mut Rng, numbers: &Numbers, store: &[u8], p: Coordinates, answer: u32, texel: u32) {
+    const KEPT: u32 = 0x0102_0304;
+    let mut bytes = layout(numbers);
+    let broken = rng.chance(1, 16);
+    if broken {
+        match rng.below(3) {
+            0 => bytes.push(0),
+            1 => bytes.truncate(rng.below(244) as usize),
+            _ => bytes[228 + 4 * rng.below(4) as usize] ^= 1 << (3 + rng.below(4)),
+        }
+    }
+    let mut out = KEPT;
+    let got = sample(&bytes, store, p, &mut out);
+    let right = match (broken, answer) {
+        (true, _) => (255, KEPT),
+        (_, 0) => (0, texel),
+        _ => (answer, KEPT),
+    };
+    tally.count(&format!("layouts answered {got}"));
+    if (got, out) != right {
+        tally.difference(format!("{got} and {out:x}, not {} and {:x}, for {numbers:?} over {} bytes", right.0, right.1, store.len()));
+    }
+}
+
 /// Records that anyone may have made up, and level 0 incomplete.
 fn records(ctx: &mut Ctx) {
     let list = specials();
@@ -582,6 +607,7 @@ fn records(ctx: &mut Ctx) {
             let mut out = [0];
             let answer = samples(&store, &numbers, &[p], &mut out);
             tally.cases += 1;
+            by_layout(tally, rng, &numbers, &store, p, answer, out[0]);
             let valid = is_valid(&numbers, store.len() as u64);
             tally.count(if valid { "valid records" } else { "records refused by 8" });
             let right = if valid { 0 } else { 8 };
@@ -596,6 +622,9 @@ fn records(ctx: &mut Ctx) {
             }
         }
     });
+    for (answer, least) in [(0, 5_000), (8, 5_000), (255, 1_000)] {
+        ctx.floor(&format!("layouts answered {answer}"), least);
+    }
     ctx.floor("records refused by 8", 5_000);
     ctx.floor("valid records", 5_000);
     ctx.floor("samples of an incomplete level 0", 500);
