@@ -42,6 +42,11 @@ uint32_t tf_decode_compressed_to_rgba(const uint8_t *data, size_t data_len, uint
 /* The bytes that a compressed image takes, in *size where it answers 0. Answers 0, 9 or 14. */
 uint32_t tf_compressed_image_size(uint32_t format, uint32_t width, uint32_t height, size_t *size);
 
+/* A sample of a texture at s, t with its gradients: the texel in *texel, red in its lowest byte, where it answers 0. Answers 0, 8 for a record
+ * that is not valid over the store, or 255 for a layout of another length or with an unknown code (the layout: docs/INTERFACE.md). */
+uint32_t tf_sample(const uint8_t *record, size_t record_len, const uint8_t *store, size_t store_len, float s, float t,
+                   float dsdx, float dtdx, float dsdy, float dtdy, uint32_t *texel);
+
 /* Sets the colours of the scissor box: the whole target where boxed is 0, else the box, counted from the bottom left. Answers 0, 1 or 2. */
 uint32_t tf_clear_color(uint8_t *colors, size_t colors_len, size_t depths_len, uint32_t width, uint32_t height,
                         uint8_t r, uint8_t g, uint8_t b, uint8_t a, uint32_t boxed, int32_t box_x, int32_t box_y,

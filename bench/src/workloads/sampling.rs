@@ -3,9 +3,6 @@ use crate::Workload;
 use oracle::texture::{Filter, MinFilter, Texture, Wrap};
 use port::sampler::{samples, Coordinates, Numbers};
 use std::hint::black_box;
-/// The bars are goals that the sampler does not meet yet (docs/BENCHMARKS.md), so the check does not hold it to them.
-const BARS_MET: bool = false;
-
 const COUNT: usize = 16_384;
 const SIDE: u32 = 256;
 
@@ -77,7 +74,7 @@ impl Workload for Sampling {
     }
 
     fn bar(&self) -> Option<f64> {
-        Some(self.bar).filter(|_| BARS_MET)
+        Some(self.bar)
     }
 
     fn units(&self) -> u64 {

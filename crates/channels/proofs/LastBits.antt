@@ -26,7 +26,7 @@ whole-bits n lo hi =
     ap (λ (k : ℕ). n * 2 ^ 149 / 2 ^ (k - 24) + (k - 24) * 2 ^ 23) (sized (n * 2 ^ 149) (mul-le-mul-right (2 ^ 149) lo) (mul-lt-mul-of-pos-right hi (pow-pos 149)))
     ∙ ap (λ (z : ℕ). z + 149 * 2 ^ 23) (mul-div-cancel n (pow-pos 149))
 
-bits : (x : Float) (n : ℕ) → HasValue x false n 1 → 2 ^ 23 ≤ n → n < 2 ^ 24 → toBits binary32 x ≡ n + 149 * 2 ^ 23
+pub bits : (x : Float) (n : ℕ) → HasValue x false n 1 → 2 ^ 23 ≤ n → n < 2 ^ 24 → toBits binary32 x ≡ n + 149 * 2 ^ 23
 unfolding toBits
 bits nan n h lo hi = absurd h
 bits (inf s) n h lo hi = absurd h

@@ -1,3 +1,5 @@
 pub mod Wraps
 pub mod Sides
 pub mod Quick
+pub mod Steps
+pub mod Small

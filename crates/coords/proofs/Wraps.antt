@@ -1,6 +1,6 @@
 -- A whole number n or -1 - n brought into a side, as the code does it, and what a remainder is. Assumes nothing.
 use Prim.Native.Nat.{ℕ, zero, suc, _+_, _-_, _*_, _/_, _%_, _≤_, _<_, min}
-use mathlib.Core.Path.{_≡_, refl}
+use mathlib.Core.Path.{_≡_, refl, sym, subst}
 use mathlib.Core.Bool.{Bool, true, false, cond}
 use lib.IntN.{ℤ, pos, negsuc}
 use native.Mathlib.Nat.{mod-lt, div-add-mod', suc-mul}
@@ -49,3 +49,7 @@ pub wrap-below : (w : Wrap) (z : ℤ) (size : ℕ) → 0 < size → wrapTexel w 
 unfolding wrapTexel
 wrap-below Repeat z size h = rem-below z size h
 wrap-below ClampToEdge z size h = edge-below z size h
+
+-- as a caller has it
+pub first-in : (w : Wrap) (z : ℤ) (size first : ℕ) → 0 < size → first ≡ wrapTexel w z size → first < size
+first-in w z size first h e = subst (λ (k : ℕ). k < size) (sym e) (wrap-below w z size h)

@@ -1,7 +1,7 @@
 -- Texel indices along one side of a level, from a texture coordinate.
 use Prim.Native.Nat.{ℕ, _-_, _%_, min}
 use mathlib.Core.Path.{_≡_}
-use mathlib.Core.Bool.{true, cond}
+use mathlib.Core.Bool.{Bool, true, false, cond}
 use lib.IntN.{ℤ, pos, negsuc}
 use lib.Ieee as Ieee
 use lib.Ieee.{Float, binary32}
@@ -30,6 +30,11 @@ pub record Floored (x : Float) (z : ℤ) (v : Float) : Type 0 where
 pub record Few (x : Float) : Type 0 where
   pub above : Ieee.lt zero32 x ≡ true
   pub below : Ieee.lt x (Ieee.ofBits binary32 0x4a80_0000) ≡ true
+
+-- no zero, and between -2 ^ 22 and 2 ^ 22
+unfoldable pub smallOf : Float → Bool
+smallOf x =
+    cond (Ieee.lt zero32 x) (Ieee.lt x (Ieee.ofBits binary32 0x4a80_0000)) (cond (Ieee.lt x zero32) (Ieee.lt (Ieee.neg x) (Ieee.ofBits binary32 0x4a80_0000)) false)
 
 -- texture.rs, wrap_texel
 unfoldable pub wrapTexel : Wrap → ℤ → ℕ → ℕ
@@ -66,3 +71,12 @@ weightOf v size = centred v size ⊖ floorOf (centred v size)
 
 unfoldable pub axisOf : Wrap → Float → ℕ → Axis
 axisOf w v size = record { first = firstOf w v size; second = secondOf w v size; weight = weightOf v size }
+
+-- the same from fx
+unfoldable pub axisAt : Wrap → Float → ℕ → Axis
+axisAt w x size =
+    record {
+      first = wrapTexel w (Ieee.toSigned 63 (floorOf x)) size;
+      second = wrapTexel w (nextOf 63 (Ieee.toSigned 63 (floorOf x))) size;
+      weight = x ⊖ floorOf x;
+    }

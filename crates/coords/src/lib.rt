@@ -2,18 +2,25 @@
 use levels::Wrap;
 use rounding::Whole;
 ghost use mathlib.Core.Path.{_≡_};
+ghost use mathlib.Core.Bool.{true};
 ghost use Prim.Native.Nat.{_+_, _≤_, _<_};
-ghost use lib.IntN.{negsuc};
+ghost use lib.IntN.{pos, negsuc};
 ghost use lib.Ieee as Ieee;
 ghost use Rattle.floats.specs.Num.{ofNat32};
-ghost use Rattle.rounding.specs.Rounding.{floorOf, numberOf};
-ghost use Rattle.coords.specs.Coords.{Few, Floored, remOf, edgeOf, wrapTexel, edgeCoord, wrapCoord, axisOf};
+ghost use Rattle.rounding.specs.Rounding.{floorOf, numberOf, nextOf};
+ghost use Rattle.coords.specs.Coords.{Few, Floored, smallOf, remOf, edgeOf, wrapTexel, edgeCoord, wrapCoord, centred, axisAt, axisOf};
 
 // The two texels of a linear sample on one axis, and the weight of the second.
 pub struct Axis {
     pub first: u32,
     pub second: u32,
     pub weight: f32,
+}
+
+// The axes along a level's width and its height.
+pub struct Axes {
+    pub x: Axis,
+    pub y: Axis,
 }
 
 // The floor of a float: as a whole number, and as a float.
@@ -129,27 +136,185 @@ fn edge_coord(c: f32, size: u32) -> u32
     floats::saturating_u32(c)
 }
 
+// A side as a float, by its bits: a conversion would wait for whatever its register held before.
+fn side(size: u32) -> f32
+    requires { ⌜ size ≤ 1024 ⌝ }
+    ensures { λ r. ⌜ r ≡ ofNat32 size ⌝ }
+{
+    f32::from_bits(1258291200 + size) - 8388608.0
+}
+
+// x.floor().rem_euclid(size)
+fn repeat_coord(x: f32, size: u32) -> u32
+    requires { ⌜ 0 < size ⌝ }
+    ensures { λ r. ⌜ r ≡ remOf (Ieee.toSigned 63 (floorOf x)) size ⌝ }
+{
+    if x > 0.0 {
+        if x < 4194304.0 {
+            return whole_part(x) % size;
+        }
+    }
+    if x < 0.0 {
+        let y = -x;
+        if y < 4194304.0 {
+            return size - 1 - below_part(y) % size;
+        }
+    }
+    rem_euclid(floored(x).whole, size)
+}
+
 pub fn wrap_coord(v: f32, size: u32, wrap: Wrap) -> u32
     requires { ⌜ (0 < size) × (size ≤ 1024) ⌝ }
     ensures { λ r. ⌜ r ≡ wrapCoord wrap v size ⌝ }
 {
-    let scaled = v * size as f32;
-    let f = floored(scaled);
+    let scaled = v * side(size);
     match wrap {
-        Wrap::Repeat => rem_euclid(f.whole, size),
-        Wrap::ClampToEdge => edge_coord(f.low, size),
+        Wrap::Repeat => repeat_coord(scaled, size),
+        Wrap::ClampToEdge => edge_coord(floored(scaled).low, size),
     }
 }
 
-pub fn linear_axis(v: f32, size: u32, wrap: Wrap) -> Axis
-    requires { ⌜ (0 < size) × (size ≤ 1024) ⌝ }
-    ensures { λ r. ⌜ r ≡ axisOf wrap v size ⌝ }
+// The texel of n, and of -1 - n.
+fn above_texel(n: u32, size: u32, wrap: Wrap) -> u32
+    requires { ⌜ 0 < size ⌝ }
+    ensures { λ r. ⌜ r ≡ wrapTexel wrap (pos n) size ⌝ }
 {
-    let scaled = v * size as f32 - 0.5;
-    let f = floored(scaled);
+    match wrap {
+        Wrap::Repeat => n % size,
+        Wrap::ClampToEdge => {
+            if n < size {
+                return n;
+            }
+            size - 1
+        }
+    }
+}
+
+fn below_texel(n: u32, size: u32, wrap: Wrap) -> u32
+    requires { ⌜ 0 < size ⌝ }
+    ensures { λ r. ⌜ r ≡ wrapTexel wrap (negsuc n) size ⌝ }
+{
+    match wrap {
+        Wrap::Repeat => size - 1 - n % size,
+        Wrap::ClampToEdge => 0,
+    }
+}
+
+// The texel after `first`, which is that of n: one step, and at the end the first or the last.
+fn above_next(n: u32, first: u32, size: u32, wrap: Wrap) -> u32
+    requires { ⌜ (0 < size) × (size ≤ 1024) × (n < 4194304) × (first ≡ wrapTexel wrap (pos n) size) ⌝ }
+    ensures { λ r. ⌜ r ≡ wrapTexel wrap (nextOf 63 (pos n)) size ⌝ }
+{
+    if first + 1 < size {
+        return first + 1;
+    }
+    match wrap {
+        Wrap::Repeat => 0,
+        Wrap::ClampToEdge => size - 1,
+    }
+}
+
+// The same of -1 - n.
+fn below_next(n: u32, first: u32, size: u32, wrap: Wrap) -> u32
+    requires { ⌜ (0 < size) × (size ≤ 1024) × (first ≡ wrapTexel wrap (negsuc n) size) ⌝ }
+    ensures { λ r. ⌜ r ≡ wrapTexel wrap (nextOf 63 (negsuc n)) size ⌝ }
+{
+    match wrap {
+        Wrap::Repeat => {
+            if first + 1 < size {
+                return first + 1;
+            }
+            0
+        }
+        Wrap::ClampToEdge => 0,
+    }
+}
+
+fn above_axis(x: f32, size: u32, wrap: Wrap) -> Axis
+    requires { ⌜ (0 < size) × (size ≤ 1024) × Few x ⌝ }
+    ensures { λ r. ⌜ r ≡ axisAt wrap x size ⌝ }
+{
+    let n = whole_part(x);
+    let first = above_texel(n, size, wrap);
+    Axis {
+        first,
+        second: above_next(n, first, size, wrap),
+        weight: x - n as f32,
+    }
+}
+
+fn below_axis(x: f32, size: u32, wrap: Wrap) -> Axis
+    requires { ⌜ (0 < size) × (size ≤ 1024) × Few (Ieee.neg x) ⌝ }
+    ensures { λ r. ⌜ r ≡ axisAt wrap x size ⌝ }
+{
+    let n = below_part(-x);
+    let first = below_texel(n, size, wrap);
+    Axis {
+        first,
+        second: below_next(n, first, size, wrap),
+        weight: x - -((n + 1) as f32),
+    }
+}
+
+// Whether x is no zero and nearer to it than 2^22.
+fn is_small(x: f32) -> bool
+    ensures { λ r. ⌜ r ≡ smallOf x ⌝ }
+{
+    if x > 0.0 {
+        return x < 4194304.0;
+    }
+    if x < 0.0 {
+        return -x < 4194304.0;
+    }
+    false
+}
+
+fn small_axis(x: f32, size: u32, wrap: Wrap) -> Axis
+    requires { ⌜ (0 < size) × (size ≤ 1024) × (smallOf x ≡ true) ⌝ }
+    ensures { λ r. ⌜ r ≡ axisAt wrap x size ⌝ }
+{
+    if x > 0.0 {
+        return above_axis(x, size, wrap);
+    }
+    below_axis(x, size, wrap)
+}
+
+fn far_axis(x: f32, size: u32, wrap: Wrap) -> Axis
+    requires { ⌜ 0 < size ⌝ }
+    ensures { λ r. ⌜ r ≡ axisAt wrap x size ⌝ }
+{
+    let f = floored(x);
     Axis {
         first: wrap_texel(f.whole, size, wrap),
         second: wrap_texel(rounding::next_i64(f.whole), size, wrap),
-        weight: scaled - f.low,
+        weight: x - f.low,
+    }
+}
+
+fn centre(v: f32, size: u32) -> f32
+    requires { ⌜ size ≤ 1024 ⌝ }
+    ensures { λ r. ⌜ r ≡ centred v size ⌝ }
+{
+    v * side(size) - 0.5
+}
+
+// Both axes of a linear sample of a level.
+pub fn linear_axes(s: f32, t: f32, width: u32, height: u32, wrap_s: Wrap, wrap_t: Wrap) -> Axes
+    requires { ⌜ (0 < width) × (width ≤ 1024) × (0 < height) × (height ≤ 1024) ⌝ }
+    ensures { λ r. ⌜ (r .x ≡ axisOf «wrap_s» s width) × (r .y ≡ axisOf «wrap_t» t height) ⌝ }
+{
+    let x = centre(s, width);
+    let y = centre(t, height);
+    if is_small(x) {
+        if is_small(y) {
+            return Axes {
+                x: small_axis(x, width, wrap_s),
+                y: small_axis(y, height, wrap_t),
+            };
+        }
+    }
+    Axes {
+        x: far_axis(x, width, wrap_s),
+        y: far_axis(y, height, wrap_t),
     }
 }

@@ -16,7 +16,7 @@ ghost use Rattle.lists.specs.Lists.{tab};
 ghost use Rattle.levels.specs.Levels.{validOf};
 ghost use Rattle.detail.specs.Pairs.{qOf};
 ghost use Rattle.detail.specs.Steps.{Thresholds};
-ghost use Rattle.sampler.specs.Samples.{sampleOf, sampleCheck};
+ghost use Rattle.sampler.specs.Samples.{placesOf, sidesOf, sampleOf, sampleCheck};
 ghost use Rattle.probes.specs.Sampling.{stepsFrom, levelFrom, levelsFrom, wrapFrom, filterFrom, minFrom, textureFrom, coordinatesFrom, packed};
 
 #[no_mangle]
@@ -178,25 +178,49 @@ fn packed_texel(x: Texel) -> u32
     wide(x.r) + wide(x.g) * 256 + wide(x.b) * 65536 + wide(x.a) * 16777216
 }
 
-fn packed_sample(store: &[u8], table: &[f64; 128], texture: Texture, p: Coordinates) -> u32
+fn packed_sample(
+    store: &[u8],
+    table: &[f64; 128],
+    places: &[usize; 11],
+    sides: &[u32; 22],
+    texture: Texture,
+    p: Coordinates,
+) -> u32
     requires { ⌜ Thresholds (now table) ⌝ ∗ ⌜ validOf (length (now store)) texture ≡ true ⌝ }
+    requires { ⌜ now places ≡ placesOf (texture .levels) ⌝ ∗ ⌜ now sides ≡ sidesOf (texture .levels) ⌝ }
     ensures { λ r. ⌜ r ≡ packed (sampleOf (now (store .entry)) texture p) ⌝ }
 {
-    packed_texel(sampler::sample_with_gradients(store, table, texture, p).texel)
+    packed_texel(sampler::sample_lent(store, table, places, sides, texture, p))
 }
 
-fn fill(store: &[u8], table: &[f64; 128], texture: Texture, coords: &[f32], out: &mut [u32])
+fn fill(
+    store: &[u8],
+    table: &[f64; 128],
+    places: &[usize; 11],
+    sides: &[u32; 22],
+    texture: Texture,
+    coords: &[f32],
+    out: &mut [u32],
+)
     requires { ⌜ Thresholds (now table) ⌝ ∗ ⌜ validOf (length (now store)) texture ≡ true ⌝ ∗ ⌜ length (now coords) ≡ length (now out) * 6 ⌝ }
+    requires { ⌜ now places ≡ placesOf (texture .levels) ⌝ ∗ ⌜ now sides ≡ sidesOf (texture .levels) ⌝ }
     ensures { λ _. ⌜ now (out .exit) ≡ tab (length (now (out .entry))) (λ (i : ℕ). packed (sampleOf (now (store .entry)) texture (coordinatesFrom (now (coords .entry)) i))) ⌝ }
 {
     let mut i = 0;
     while i < out.len() {
-        out[i] = packed_sample(store, table, texture, coordinates_from(coords, i));
+        out[i] = packed_sample(
+            store,
+            table,
+            places,
+            sides,
+            texture,
+            coordinates_from(coords, i),
+        );
         i += 1;
     }
 }
 
-// Samples of one texture: the record is checked and the table made once.
+// Samples of one texture: the record is checked and what is lent is made once, as in a draw.
 #[no_mangle]
 pub extern "C" fn probe_samples(
     store: &[u8],
@@ -212,6 +236,8 @@ pub extern "C" fn probe_samples(
         return 8;
     }
     let table = detail::thresholds();
-    fill(store, &table, texture, coords, out);
+    let places = sampler::places(texture);
+    let sides = sampler::sides(texture);
+    fill(store, &table, &places, &sides, texture, coords, out);
     0
 }

@@ -46,12 +46,16 @@ module _ (store : List ℕ) (x : Texture) (s t : Float) where
   unfolding addresses
   above f k j = ap (λ (l : List ℕ). drop (taken f) l) (apart f k j) ∙ drop-at (bytesAt store (addresses f k)) (bytesAt store (addresses f j)) (taken f) (filter-bytes store f (levelOf x k) (x .«wrap_s») (x .«wrap_t») s t)
 
-  pub chosen-two : (c : Chosen) (k : ℕ) (f : Filter) (part : ℕ) → c ≡ Two k f part
+  chosen-two : (c : Chosen) (k : ℕ) (f : Filter) (part : ℕ) → c ≡ Two k f part
       → mixTexel (partOf part) (levelTexel store x k f s t) (levelTexel store x (k + 1) f s t) ≡ chosenTexel x c s t (bytesAt store (chosenAddresses x c s t))
   unfolding levelTexel chosenTexel chosenAddresses addresses
   chosen-two c k f part e = rw e
       (ap (λ (l : List ℕ). mixTexel (partOf part) (filterTexel f (levelOf x k) s t l) (filterTexel f (levelOf x (k + 1)) s t (bytesAt store (addresses f (k + 1))))) (sym (below f k (k + 1)))
       ∙ ap (λ (l : List ℕ). mixTexel (partOf part) (filterTexel f (levelOf x k) s t (take (taken f) (bytesAt store (addresses f k ++ addresses f (k + 1))))) (filterTexel f (levelOf x (k + 1)) s t l)) (sym (above f k (k + 1))))
+
+  pub chosen-pair : (c : Chosen) (k : ℕ) (f : Filter) (part : ℕ) → c ≡ Two k f part → (a b : Texel) → a ≡ levelTexel store x k f s t → b ≡ levelTexel store x (k + 1) f s t
+      → mixTexel (partOf part) a b ≡ chosenTexel x c s t (bytesAt store (chosenAddresses x c s t))
+  chosen-pair c k f part e a b g h = rw (g, h) (chosen-two c k f part e)
 
 module _ (store : List ℕ) (x : Texture) (p : Coordinates) where
   pub incomplete : complete (levelOf x 0) ≡ false → white ≡ sampleOf store x p

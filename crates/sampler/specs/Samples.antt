@@ -2,16 +2,16 @@
 use Prim.Native.Nat.{ℕ, _+_, _*_, _≤_, _<_}
 use mathlib.Core.Path.{_≡_}
 use mathlib.Core.Bool.{true, cond}
-use mathlib.Core.List.{List}
+use mathlib.Core.List.{List, [], _∷_}
 use lib.Dec.{eqb}
-use lib.ListN.{length, take, drop}
+use lib.ListN.{length, getD, take, drop}
 use lib.Ieee.{Float}
 use Rattle.answers.specs.Numbers.{refusalNumber}
 use Rattle.levels.specs.declared.MipLevel.{MipLevel}
 use Rattle.levels.specs.declared.Texture.{Texture}
 use Rattle.levels.specs.declared.Filter.{Filter}
 use Rattle.levels.specs.declared.Filter.the-variants.{Nearest, Linear}
-use Rattle.levels.specs.Levels.{levelOf, complete, validOf}
+use Rattle.levels.specs.Levels.{absent, levelOf, complete, validOf}
 use Rattle.levels.specs.declared.Wrap.{Wrap}
 use Rattle.coords.specs.Coords.{wrapCoord, firstOf, secondOf, weightOf}
 use Rattle.mipmaps.specs.declared.Chosen.{Chosen}
@@ -103,3 +103,19 @@ pub record Readable (n : ℕ) (x : Texture) : Type 0 where
 
 unfoldable pub levelTexel : List ℕ → Texture → ℕ → Filter → Float → Float → Texel
 levelTexel store x k f s t = filterTexel f (levelOf x k) s t (bytesAt store (filterAddresses f (levelOf x k) (x .«wrap_s») (x .«wrap_t») s t))
+
+-- ---- what a draw lends of a record's levels
+
+-- the place of each level
+unfoldable pub placesOf : List MipLevel → List ℕ
+placesOf l =
+    getD l 0 absent .place ∷ getD l 1 absent .place ∷ getD l 2 absent .place ∷ getD l 3 absent .place ∷ getD l 4 absent .place ∷ getD l 5 absent .place ∷ getD l 6 absent .place
+    ∷ getD l 7 absent .place ∷ getD l 8 absent .place ∷ getD l 9 absent .place ∷ getD l 10 absent .place ∷ []
+
+-- the width and the height of one level before those of the next
+abbrev sidesAt : List MipLevel → ℕ → List ℕ → List ℕ
+sidesAt l k rest = getD l k absent .width ∷ getD l k absent .height ∷ rest
+
+unfoldable pub sidesOf : List MipLevel → List ℕ
+sidesOf l =
+    sidesAt l 0 (sidesAt l 1 (sidesAt l 2 (sidesAt l 3 (sidesAt l 4 (sidesAt l 5 (sidesAt l 6 (sidesAt l 7 (sidesAt l 8 (sidesAt l 9 (sidesAt l 10 []))))))))))

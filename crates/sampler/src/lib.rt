@@ -10,13 +10,13 @@ ghost use mathlib.Core.Path.{_≡_};
 ghost use mathlib.Core.Bool.{true};
 ghost use Prim.Native.Nat.{_+_, _*_, _≤_, _<_};
 ghost use lib.ListN.{length, getD};
-ghost use Rattle.levels.specs.Levels.{absent, Fits, validOf};
+ghost use Rattle.levels.specs.Levels.{levelAt, Fits, validOf};
 ghost use Rattle.coords.specs.Coords.{wrapCoord, firstOf, secondOf, weightOf};
 ghost use Rattle.mipmaps.specs.Mipmaps.{Within};
 ghost use Rattle.detail.specs.Steps.{Thresholds};
 ghost use Rattle.sampler.specs.Texels.{texelAt, white, linearByte, linearTexel, partOf, mixByte, mixTexel};
 ghost use Rattle.sampler.specs.Addresses.{indexOf, filterAddresses, chosenAddresses, bytesAt};
-ghost use Rattle.sampler.specs.Samples.{filterTexel, chosenTexel, levelTexel, sampleOf, sampledOf, outcomeOf, sampleCall, Image, Readable, nearestIn, linearIn};
+ghost use Rattle.sampler.specs.Samples.{filterTexel, chosenTexel, placesOf, sidesOf, sampleOf, sampledOf, outcomeOf, sampleCall, Image, Readable, nearestIn, linearIn};
 
 // Red, green, blue and alpha.
 pub struct Texel {
@@ -104,8 +104,9 @@ fn sample_linear_level(
     requires { ⌜ Image width height (now texels) ⌝ }
     ensures { λ r. ⌜ r ≡ linearIn (now (texels .entry)) width height «wrap_s» «wrap_t» s t ⌝ }
 {
-    let x = coords::linear_axis(s, width, wrap_s);
-    let y = coords::linear_axis(t, height, wrap_t);
+    let axes = coords::linear_axes(s, t, width, height, wrap_s, wrap_t);
+    let x = axes.x;
+    let y = axes.y;
     let c00 = texel_at(texels, index_of(width, height, x.first, y.first));
     let c10 = texel_at(texels, index_of(width, height, x.second, y.first));
     let c01 = texel_at(texels, index_of(width, height, x.first, y.second));
@@ -153,74 +154,99 @@ fn mix_texels(part: u32, a: Texel, b: Texel) -> Texel
     }
 }
 
-// Level k of a record's array. An index that is no constant would copy the whole record.
-fn level_at(texture: Texture, k: usize) -> MipLevel
-    requires { ⌜ k < 11 ⌝ }
-    ensures { λ r. ⌜ r ≡ getD (texture .levels) k absent ⌝ }
+// The place of each level in the store, for a draw to make once and lend.
+pub fn places(texture: Texture) -> [usize; 11]
+    ensures { λ r. ⌜ r ≡ placesOf (texture .levels) ⌝ }
 {
-    if k < 1 {
-        return texture.levels[0];
-    }
-    if k < 2 {
-        return texture.levels[1];
-    }
-    if k < 3 {
-        return texture.levels[2];
-    }
-    if k < 4 {
-        return texture.levels[3];
-    }
-    if k < 5 {
-        return texture.levels[4];
-    }
-    if k < 6 {
-        return texture.levels[5];
-    }
-    if k < 7 {
-        return texture.levels[6];
-    }
-    if k < 8 {
-        return texture.levels[7];
-    }
-    if k < 9 {
-        return texture.levels[8];
-    }
-    if k < 10 {
-        return texture.levels[9];
-    }
-    texture.levels[10]
+    let l = texture.levels;
+    [
+        l[0].place,
+        l[1].place,
+        l[2].place,
+        l[3].place,
+        l[4].place,
+        l[5].place,
+        l[6].place,
+        l[7].place,
+        l[8].place,
+        l[9].place,
+        l[10].place,
+    ]
 }
 
-fn sample_level(
+// The width and the height of each level, for a draw to make once and lend.
+pub fn sides(texture: Texture) -> [u32; 22]
+    ensures { λ r. ⌜ r ≡ sidesOf (texture .levels) ⌝ }
+{
+    let l = texture.levels;
+    [
+        l[0].width,
+        l[0].height,
+        l[1].width,
+        l[1].height,
+        l[2].width,
+        l[2].height,
+        l[3].width,
+        l[3].height,
+        l[4].width,
+        l[4].height,
+        l[5].width,
+        l[5].height,
+        l[6].width,
+        l[6].height,
+        l[7].width,
+        l[7].height,
+        l[8].width,
+        l[8].height,
+        l[9].width,
+        l[9].height,
+        l[10].width,
+        l[10].height,
+    ]
+}
+
+// Level k by its place and its sides.
+fn level_at(places: &[usize; 11], sides: &[u32; 22], k: usize) -> MipLevel
+    requires { ⌜ k < 11 ⌝ }
+    ensures { λ r. ⌜ r ≡ levelAt (getD (now (places .entry)) k 0) (getD (now (sides .entry)) (k * 2) 0) (getD (now (sides .entry)) (k * 2 + 1) 0) ⌝ }
+{
+    MipLevel {
+        present: true,
+        place: places[k],
+        width: sides[k * 2],
+        height: sides[k * 2 + 1],
+    }
+}
+
+fn sample_chosen(
     store: &[u8],
+    places: &[usize; 11],
+    sides: &[u32; 22],
     texture: Texture,
-    level: usize,
-    filter: Filter,
+    chosen: Chosen,
     s: f32,
     t: f32,
 ) -> Texel
-    requires { ⌜ Readable (length (now store)) texture ⌝ ∗ ⌜ level ≤ texture .«max_mipmap_level» ⌝ }
-    ensures { λ r. ⌜ r ≡ levelTexel (now (store .entry)) texture level filter s t ⌝ }
-{
-    let m = level_at(texture, level);
-    let wrap_s = texture.wrap_s;
-    let wrap_t = texture.wrap_t;
-    sample_filter(store, m, wrap_s, wrap_t, filter, s, t)
-}
-
-fn sample_chosen(store: &[u8], texture: Texture, chosen: Chosen, s: f32, t: f32) -> Texel
     requires { ⌜ Readable (length (now store)) texture ⌝ ∗ ⌜ Within (texture .«max_mipmap_level») chosen ⌝ }
+    requires { ⌜ now places ≡ placesOf (texture .levels) ⌝ ∗ ⌜ now sides ≡ sidesOf (texture .levels) ⌝ }
     ensures { λ r. ⌜ r ≡ chosenTexel texture chosen s t (bytesAt (now (store .entry)) (chosenAddresses texture chosen s t)) ⌝ }
 {
+    let wrap_s = texture.wrap_s;
+    let wrap_t = texture.wrap_t;
     match chosen {
-        Chosen::One { level, filter } => sample_level(store, texture, level, filter, s, t),
+        Chosen::One { level, filter } => {
+            let m = level_at(places, sides, level);
+            sample_filter(store, m, wrap_s, wrap_t, filter, s, t)
+        }
         Chosen::Two {
             level,
             filter,
             part,
         } => {
-            let a = sample_level(store, texture, level, filter, s, t);
-            let b = sample_level(store, texture, level + 1, filter, s, t);
+            let m = level_at(places, sides, level);
+            let a = sample_filter(store, m, wrap_s, wrap_t, filter, s, t);
+            let next = level_at(places, sides, level + 1);
+            let b = sample_filter(store, next, wrap_s, wrap_t, filter, s, t);
             mix_texels(part, a, b)
         }
     }
@@ -242,8 +268,17 @@ fn white_texel() -> Texel
     }
 }
 
-fn sample_texel(store: &[u8], table: &[f64; 128], texture: Texture, p: Coordinates) -> Texel
+// A sample of a record that is known to be valid, with the table, the places and the sides lent: what a draw does at each pixel.
+pub fn sample_lent(
+    store: &[u8],
+    table: &[f64; 128],
+    places: &[usize; 11],
+    sides: &[u32; 22],
+    texture: Texture,
+    p: Coordinates,
+) -> Texel
     requires { ⌜ Thresholds (now table) ⌝ ∗ ⌜ validOf (length (now store)) texture ≡ true ⌝ }
+    requires { ⌜ now places ≡ placesOf (texture .levels) ⌝ ∗ ⌜ now sides ≡ sidesOf (texture .levels) ⌝ }
     ensures { λ r. ⌜ r ≡ sampleOf (now (store .entry)) texture p ⌝ }
 {
     let levels = texture.levels;
@@ -266,10 +301,10 @@ fn sample_texel(store: &[u8], table: &[f64; 128], texture: Texture, p: Coordinat
         mag,
         p,
     );
-    sample_chosen(store, texture, chosen, p.s, p.t)
+    sample_chosen(store, places, sides, texture, chosen, p.s, p.t)
 }
 
-// A sample of a record that is known to be valid, with the table lent: what a draw does at each pixel.
+// The same with the table alone lent.
 pub fn sample_with_gradients(
     store: &[u8],
     table: &[f64; 128],
@@ -279,8 +314,10 @@ pub fn sample_with_gradients(
     requires { ⌜ Thresholds (now table) ⌝ ∗ ⌜ validOf (length (now store)) texture ≡ true ⌝ }
     ensures { λ r. ⌜ r ≡ sampledOf (now (store .entry)) texture p ⌝ }
 {
+    let places = places(texture);
+    let sides = sides(texture);
     Sampled {
-        texel: sample_texel(store, table, texture, p),
+        texel: sample_lent(store, table, &places, &sides, texture, p),
     }
 }
 

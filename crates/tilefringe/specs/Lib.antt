@@ -1,2 +1,3 @@
 pub mod Target
 pub mod TextureCalls
+pub mod SampleCalls

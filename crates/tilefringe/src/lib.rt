@@ -1,4 +1,5 @@
 // The C interface: docs/INTERFACE.md. Answers are the numbers of document 01; 0 is done.
 mod decode;
+mod sample_calls;
 mod target;
 mod texture_calls;

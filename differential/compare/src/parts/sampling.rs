@@ -2,15 +2,14 @@
 //! of `sample_with_gradients` as near as document 01 lets it be.
 use crate::floats::{mixed, specials};
 use crate::{judged, shrink, Ctx, Part, Record, Rng, Tally};
-use port::sampler::{probe_q_of, samples, steps, Coordinates, Numbers};
+use port::sampler::{layout, probe_q_of, sample, samples, steps, Coordinates, Numbers};
 
 pub const PART: Part = Part {
     name: "sampling",
     about: "nearest, linear and mixed samples, and the level of detail",
     cases: 400_000,
     run,
-    // Nothing is recorded until a program replays it.
-    record: None,
+    record: Some(record),
 };
 
 // ---- the level of detail, read plainly from document 01
@@ -228,15 +227,20 @@ fn rust_answers(shape: &Shape, store: &[u8], coords: &[Coordinates]) -> crate::j
     })
 }
 
-/// The levels that the Rust reads, from its own log2.
-fn rust_levels(shape: &Shape, [_, _, dsdx, dtdx, dsdy, dtdy]: Coordinates) -> Option<(u32, u32, f32)> {
+/// The levels that the Rust reads, from its own log2, and whether it filters their texels linearly.
+fn rust_levels(shape: &Shape, [_, _, dsdx, dtdx, dsdy, dtdy]: Coordinates) -> (u32, u32, bool) {
     let (w, h) = (shape.width as f32, shape.height as f32);
     let rho = (dsdx * w).hypot(dtdx * h).max((dsdy * w).hypot(dtdy * h));
-    if rho.is_nan() || rho <= 1.0 || shape.min < 2 {
-        return Some((0, 0, 0.0));
+    if rho.is_nan() || rho <= 1.0 {
+        return (0, 0, shape.mag == 1);
     }
+    let linear = shape.min % 2 == 1;
     let lod = rho.log2().clamp(0.0, (shape.levels - 1) as f32);
-    Some(if shape.min < 4 { ((lod + 0.5).floor() as u32, (lod + 0.5).floor() as u32, lod) } else { (lod.floor() as u32, lod.ceil() as u32, lod) })
+    match shape.min {
+        0 | 1 => (0, 0, linear),
+        2 | 3 => ((lod + 0.5).floor() as u32, (lod + 0.5).floor() as u32, linear),
+        _ => (lod.floor() as u32, lod.ceil() as u32, linear),
+    }
 }
 
 // ---- inputs
@@ -409,13 +413,21 @@ fn batch(tally: &mut Tally, rng: &mut Rng, specials: &[f32]) {
             Levels::One(k) => (k, k),
             Levels::Two(k, _) => (k, k + 1),
         };
-        let same_levels = rust_levels(&shape, p).is_some_and(|(low, high, _)| (low, high) == mine);
-        if shape.min >= 2 && q > 1.0 {
+        let (low, high, rust_linear) = rust_levels(&shape, p);
+        let (same_levels, same_filter) = ((low, high) == mine, rust_linear == linear);
+        let mipmapped = shape.min >= 2 && q > 1.0;
+        if mipmapped {
             tally.count("mipmapped samples");
             if !same_levels {
                 tally.count("mipmapped samples whose levels are not the Rust's");
             }
-            let name = if same_levels { "channel difference where the levels are the Rust's" } else { "channel difference where they are not" };
+        }
+        if !same_filter {
+            // The Rust's rho is rounded to 1 and magnified where q is above 1, or the other way round.
+            tally.count("samples whose filter is not the Rust's");
+            tally.greatest("channel difference where the filter is not the Rust's", f64::from(difference));
+        } else if mipmapped {
+            let name = if same_levels { "channel difference where levels and filter are the Rust's" } else { "channel difference where the levels are not the Rust's" };
             tally.greatest(name, f64::from(difference));
         } else if difference > 0 && same_levels {
             tally.difference(format!("{case:?}: {:?} from the port, {:?} from the Rust", texels[i], verdict.answer.own[i]));
@@ -542,6 +554,31 @@ fn is_valid(numbers: &Numbers, store: u64) -> bool {
     u64::from(numbers[44]) == top as u64
 }
 
+/// The call of the C interface: the same answer and texel, and 255 for a layout of another length or with an unknown code.
+fn by_layout(tally: &mut Tally, rng: &mut Rng, numbers: &Numbers, store: &[u8], p: Coordinates, answer: u32, texel: u32) {
+    const KEPT: u32 = 0x0102_0304;
+    let mut bytes = layout(numbers);
+    let broken = rng.chance(1, 16);
+    if broken {
+        match rng.below(3) {
+            0 => bytes.push(0),
+            1 => bytes.truncate(rng.below(244) as usize),
+            _ => bytes[228 + 4 * rng.below(4) as usize] ^= 1 << (3 + rng.below(4)),
+        }
+    }
+    let mut out = KEPT;
+    let got = sample(&bytes, store, p, &mut out);
+    let right = match (broken, answer) {
+        (true, _) => (255, KEPT),
+        (_, 0) => (0, texel),
+        _ => (answer, KEPT),
+    };
+    tally.count(&format!("layouts answered {got}"));
+    if (got, out) != right {
+        tally.difference(format!("{got} and {out:x}, not {} and {:x}, for {numbers:?} over {} bytes", right.0, right.1, store.len()));
+    }
+}
+
 /// Records that anyone may have made up, and level 0 incomplete.
 fn records(ctx: &mut Ctx) {
     let list = specials();
@@ -570,6 +607,7 @@ fn records(ctx: &mut Ctx) {
             let mut out = [0];
             let answer = samples(&store, &numbers, &[p], &mut out);
             tally.cases += 1;
+            by_layout(tally, rng, &numbers, &store, p, answer, out[0]);
             let valid = is_valid(&numbers, store.len() as u64);
             tally.count(if valid { "valid records" } else { "records refused by 8" });
             let right = if valid { 0 } else { 8 };
@@ -584,6 +622,9 @@ fn records(ctx: &mut Ctx) {
             }
         }
     });
+    for (answer, least) in [(0, 5_000), (8, 5_000), (255, 1_000)] {
+        ctx.floor(&format!("layouts answered {answer}"), least);
+    }
     ctx.floor("records refused by 8", 5_000);
     ctx.floor("valid records", 5_000);
     ctx.floor("samples of an incomplete level 0", 500);
@@ -591,48 +632,48 @@ fn records(ctx: &mut Ctx) {
 
 // ---- the record
 
-/// An entry: width and height (2 bytes each), levels, top level, filters, wraps (1 each), seed (4), the store's length (4),
-/// six floats (4 each), the answer's number (1), the texel (4).
-fn entry(record: &mut Record, shape: &Shape, top: u8, length: u32, p: Coordinates, number: u8, texel: [u8; 4]) {
+/// An entry: the record's 49 numbers and six floats (4 bytes each), the answer's number (4) and the texel (4), then the store.
+fn entry(record: &mut Record, numbers: Numbers, p: Coordinates, number: u32, texel: [u8; 4], store: &[u8]) {
     let mut bytes = Vec::new();
-    bytes.extend((shape.width as u16).to_le_bytes());
-    bytes.extend((shape.height as u16).to_le_bytes());
-    bytes.extend([shape.levels as u8, top, shape.min as u8, shape.mag as u8, shape.wrap_s as u8, shape.wrap_t as u8]);
-    bytes.extend(shape.seed.to_le_bytes());
-    bytes.extend(length.to_le_bytes());
+    for n in numbers {
+        bytes.extend(n.to_le_bytes());
+    }
     for x in p {
         bytes.extend(x.to_bits().to_le_bytes());
     }
-    bytes.push(number);
+    bytes.extend(number.to_le_bytes());
     bytes.extend(texel);
+    bytes.extend(store);
     record.entry(&bytes);
 }
 
-/// Small textures, so that a replay makes their stores in no time.
+/// Small textures, so that a record holds their stores.
 fn small_shape(rng: &mut Rng) -> Shape {
     let mut s = shape(rng);
-    s.width = 1 + s.width % 16;
-    s.height = 1 + s.height % 16;
+    s.width = 1 + s.width % 8;
+    s.height = 1 + s.height % 8;
     s.levels = 1 + s.levels % s.whole_chain();
     s
 }
 
-/// What `differential/run --record` will write once crates/replay_sampling is there.
-#[allow(dead_code)]
+/// Every eighth entry has a record that is refused: a top level that is not there, or a store that is a byte short.
 fn record(record: &mut Record) {
     let mut rng = Rng::named(1, "sampling/record", 0);
     let list = specials();
-    for i in 0..2_000 {
+    for i in 0..1_000 {
         let shape = small_shape(&mut rng);
         let p = coordinates(&mut rng, &shape, &list);
-        let top = (shape.levels - 1) as u8;
-        let length = shape.bytes() as u32;
+        let (mut numbers, mut store) = (shape.numbers(), shape.store());
         if i % 8 == 0 {
-            let (top, length) = if rng.bool() { (top + 1, length) } else { (top, length - 1) };
-            entry(record, &shape, top, length, p, 8, [0; 4]);
+            if rng.bool() {
+                numbers[44] += 1;
+            } else {
+                store.pop();
+            }
+            entry(record, numbers, p, 8, [0; 4], &store);
         } else {
-            let texel = rust_answers(&shape, &shape.store(), &[p]).answer.at_levels[0];
-            entry(record, &shape, top, length, p, 0, texel);
+            let texel = rust_answers(&shape, &store, &[p]).answer.at_levels[0];
+            entry(record, numbers, p, 0, texel, &store);
         }
     }
 }

@@ -16,19 +16,19 @@ abbrev sampleAt : List ℕ → Texture → List Float → ℕ → ℕ
 sampleAt store texture coords i = packed (sampleOf store texture (coordinatesFrom coords i))
 
 abbrev Inv-loop : tie.InvT-loop
-Inv-loop store table texture coords out₀ i₀ out i = Mapped (sampleAt store texture coords) (length out₀) out₀ out i
+Inv-loop store table places sides texture coords out₀ i₀ out i = Mapped (sampleAt store texture coords) (length out₀) out₀ out i
 
 abbrev μ-loop : tie.MeasureT-loop
-μ-loop store table texture coords out₀ i₀ out i = length out₀ - i
+μ-loop store table places sides texture coords out₀ i₀ out i = length out₀ - i
 
 loop-holds : tie.Need-loop-holds Inv-loop μ-loop
 loop-holds c = mapped-none _ refl
 
 coordinates-from-requires : tie.Need-coordinates-from-requires Inv-loop μ-loop
-coordinates-from-requires c κs = omega (arith, c .before .before .before .before .before .pre .1 .1, c .before .loop .inv .kept, c .loop-test .taken)
+coordinates-from-requires c κs = omega (arith, c .before .before .before .before .before .pre .1 .1 .0, c .before .loop .inv .kept, c .loop-test .taken)
 
 packed-sample-requires : tie.Need-packed-sample-requires Inv-loop μ-loop
-packed-sample-requires c κs = (c .before .before .before .before .before .before .pre .0, c .before .before .before .before .before .before .pre .1 .0)
+packed-sample-requires c κs = (c .before .before .before .before .before .before .pre .0, (c .before .before .before .before .before .before .pre .1 .0, (c .before .before .before .before .before .before .pre .1 .1 .1 .0, c .before .before .before .before .before .before .pre .1 .1 .1 .1)))
 
 loop-again : tie.Need-loop-again Inv-loop μ-loop
 loop-again c = mapped-more (c .before .before .before .loop .inv) (omega (arith, c .before .before .before .loop .inv .kept, c .before .before .loop-test .taken)) (c .packed-sample .ensures ∙ rw (c .before .coordinates-from .ensures))
