@@ -1,0 +1,3 @@
+pub mod Named
+pub mod Same
+pub mod Demand3

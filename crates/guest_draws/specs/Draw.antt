@@ -1,0 +1,76 @@
+-- draw_triangle as a call of a guest, on the shared state. What it does is drawOf, the definition that its contract cites, on the
+-- records named, as last left. Beside it stands what it reads and writes, as document 01 lists it.
+use mathlib.Core.List.{List}
+use Prim.Native.Nat.{ℕ}
+use lib.ListN.{length, getD}
+use lib.Ieee.{Float}
+use Rattle.lists.specs.Lists.{tab}
+use Rattle.settings.specs.declared.Scissor.{Scissor}
+use Rattle.levels.specs.declared.Texture.{Texture}
+use Rattle.isolation.specs.Machine.{Act}
+use Rattle.frames.specs.State.{Place, Answer}
+use Rattle.frames.specs.Gather.{Drawn, drawn}
+use Rattle.stages.specs.Stages.{stageAt}
+use Rattle.pixels.specs.Way as Way
+use Rattle.pixels.specs.Way.{Drawing}
+use Rattle.draw.specs.Checks.{earlyCheck, lateCheck}
+use Rattle.draw.specs.Draw.{DrawArgs, boundTo, Outcome, drawOf}
+use Rattle.draw_reads.specs.Items.{Item, drawItems, itemsWork}
+use Rattle.guests.specs.Calls.{Shared}
+use Rattle.guests.specs.Draws.{Draws, DrawReads, drawWrites}
+
+-- A draw as a guest makes it. units: the names of the four units' textures.
+pub record DrawCall : Type 0 where
+  pub args : DrawArgs
+  pub units : List ℕ
+
+abbrev pub scissorOf : DrawCall → Scissor
+scissorOf x = x .args .state .scissor
+
+-- the name of unit u's texture
+abbrev pub nameAt : DrawCall → ℕ → ℕ
+nameAt x u = getD (x .units) u 0
+
+-- the four units' records
+unfoldable pub recordsOf : DrawCall → (ℕ → Texture) → List Texture
+recordsOf x f = tab 4 (λ u. f (nameAt x u))
+
+-- the record that each stage reads
+abbrev pub stageRecords : DrawCall → (ℕ → Texture) → List Texture
+stageRecords x f = boundTo (x .args .stages) (x .args .count) (recordsOf x f)
+
+-- 01: the textures of the units that its stages name
+unfoldable pub namesOf : DrawCall → List ℕ
+namesOf x = tab (x .args .count) (λ i. nameAt x (stageAt (x .args .stages) i .unit))
+
+-- the number of 1, 2, 3, 4, 7 and 6, or 0; and of 8 and 5, or 0
+abbrev pub earlyNumber : DrawCall → Shared → ℕ
+earlyNumber x s = earlyCheck (s .width) (s .height) (length (s .colors)) (length (s .depths)) (x .args .state) (x .args .stages) (x .args .count)
+
+abbrev pub lateNumber : DrawCall → Shared → ℕ
+lateNumber x s = lateCheck (length (s .store)) (x .args .count) (stageRecords x (s .textures)) (x .args .a) (x .args .b) (x .args .c)
+
+abbrev pub drawingOf : DrawCall → (ℕ → Texture) → Drawing
+drawingOf x f = Way.drawing (x .args .state) (x .args .stages) (x .args .count) (stageRecords x f)
+
+-- its parts: checks, names, scissor and fragments
+abbrev pub parts : DrawCall → Draws Item Drawn
+parts x = record {
+  early = earlyNumber x;
+  late = lateNumber x;
+  names = namesOf x;
+  scissor = scissorOf x;
+  canvas = drawn;
+  work = λ w h f. itemsWork (drawingOf x f) w (drawItems (x .args .state) w h (x .args .a) (x .args .b) (x .args .c));
+}
+
+-- the state with other colours and depths
+abbrev pub withFrame : Shared → List ℕ → List Float → Shared
+withFrame s cs ds = record { width = s .width; height = s .height; colors = cs; depths = ds; store = s .store; textures = s .textures }
+
+abbrev pub drawing : DrawCall → Act Shared Answer Place
+drawing x = record {
+  does = λ s. let o = drawOf (s .store) (s .width) (s .height) (x .args) (recordsOf x (s .textures)) (s .colors) (s .depths) in (o .answer, withFrame s (o .colors) (o .depths));
+  Reads = DrawReads (parts x);
+  writes = drawWrites (parts x);
+}
