@@ -1,3 +1,4 @@
 pub mod Named
 pub mod Same
 pub mod Demand3
+pub mod Exact

@@ -43,7 +43,7 @@ unfolding namesOf
 names-stage x i b = in-tab (x .args .count) (λ j. nameAt x (stageAt (x .args .stages) j .unit)) i b
 
 -- unit u's record, or what stands past the four
-unit-record : (x : DrawCall) (f : ℕ → Texture) (u : ℕ) → u < 4 → textureAt (recordsOf x f) u ≡ f (nameAt x u)
+pub unit-record : (x : DrawCall) (f : ℕ → Texture) (u : ℕ) → u < 4 → textureAt (recordsOf x f) u ≡ f (nameAt x u)
 unfolding recordsOf
 unit-record x f u b = getD-tab (λ v. f (nameAt x v)) 4 u noTexture b
 

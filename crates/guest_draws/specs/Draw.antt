@@ -14,7 +14,7 @@ use Rattle.stages.specs.Stages.{stageAt}
 use Rattle.pixels.specs.Way as Way
 use Rattle.pixels.specs.Way.{Drawing}
 use Rattle.draw.specs.Checks.{earlyCheck, lateCheck}
-use Rattle.draw.specs.Draw.{DrawArgs, boundTo, Outcome, drawOf}
+use Rattle.draw.specs.Draw.{DrawArgs, boundTo, drawCheck, drawOf}
 use Rattle.draw_reads.specs.Items.{Item, drawItems, itemsWork}
 use Rattle.guests.specs.Calls.{Shared}
 use Rattle.guests.specs.Draws.{Draws, DrawReads, drawWrites}
@@ -49,6 +49,10 @@ earlyNumber x s = earlyCheck (s .width) (s .height) (length (s .colors)) (length
 
 abbrev pub lateNumber : DrawCall → Shared → ℕ
 lateNumber x s = lateCheck (length (s .store)) (x .args .count) (stageRecords x (s .textures)) (x .args .a) (x .args .b) (x .args .c)
+
+-- the number of the whole check
+abbrev pub drawNumber : DrawCall → Shared → ℕ
+drawNumber x s = drawCheck (s .width) (s .height) (length (s .colors)) (length (s .depths)) (length (s .store)) (x .args) (recordsOf x (s .textures))
 
 abbrev pub drawingOf : DrawCall → (ℕ → Texture) → Drawing
 drawingOf x f = Way.drawing (x .args .state) (x .args .stages) (x .args .count) (stageRecords x f)
