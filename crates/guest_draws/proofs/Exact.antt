@@ -28,8 +28,7 @@ use Rattle.draw_reads.specs.Items.{drawItems}
 use Rattle.draw_reads.specs.Takes.{Takes}
 use Rattle.draw_reads.proofs.Takes.{takes, takes-in}
 use Rattle.guests.specs.Calls.{Shared}
-use Rattle.guests.specs.Draws.{Passes}
-use Rattle.guest_draws.specs.Draw.{DrawCall, nameAt, recordsOf, stageRecords, namesOf, scissorOf, earlyNumber, lateNumber, drawNumber, drawingOf, parts, drawing}
+use Rattle.guest_draws.specs.Draw.{DrawCall, nameAt, recordsOf, stageRecords, namesOf, scissorOf, earlyNumber, lateNumber, drawNumber, drawingOf, Passed, drawing}
 use Rattle.guest_draws.proofs.Named.{names-stage, unit-record}
 
 -- ---- two checks in a row
@@ -92,7 +91,7 @@ tab-entry {A} (suc n) f a m = go (in-either a (tab n f) (f n ∷ []) m) (tab-ent
     go (inr (inr y)) r = absurd y
 
 module _ (x : DrawCall) (s : Shared) where
-  passes : eqb (drawNumber x s) 0 ≡ true → Passes (parts x) s
+  passes : eqb (drawNumber x s) 0 ≡ true → Passed x s
   unfolding drawCheck
   passes e = both-pass (earlyNumber x s) (lateNumber x s) e
 
@@ -162,7 +161,7 @@ module _ (x : DrawCall) (s : Shared) where
   draw-refused (byte b) e = refl
   draw-refused (texture n) e = refl
 
-  not-both : Passes (parts x) s → eqb (drawNumber x s) 0 ≡ false → ⊥
+  not-both : Passed x s → eqb (drawNumber x s) 0 ≡ false → ⊥
   unfolding drawCheck
   not-both k e = true≢false (sym (rw (k .0) (k .1)) ∙ e)
 

@@ -1,14 +1,19 @@
 -- draw_triangle as a call of a guest, on the shared state. What it does is drawOf, the definition that its contract cites, on the
 -- records named, as last left. Beside it stands what it reads and writes, as document 01 lists it.
+use mathlib.Core.Path.{_≡_}
+use mathlib.Core.Bool.{Bool, true, false, cond}
 use mathlib.Core.List.{List}
 use Prim.Native.Nat.{ℕ}
+use lib.Dec.{eqb}
 use lib.ListN.{length, getD}
 use lib.Ieee.{Float}
 use Rattle.lists.specs.Lists.{tab}
 use Rattle.settings.specs.declared.Scissor.{Scissor}
 use Rattle.levels.specs.declared.Texture.{Texture}
-use Rattle.isolation.specs.Machine.{Act}
-use Rattle.frames.specs.State.{Place, Answer}
+use Rattle.scissor.specs.Scissor.{pixelIn}
+use Rattle.isolation.specs.Machine.{Act, In}
+use Rattle.frames.specs.State.{Place, sizes, pixel, byte, texture, Answer}
+use Rattle.frames.specs.Fragments.{takenBy}
 use Rattle.frames.specs.Gather.{Drawn, drawn}
 use Rattle.stages.specs.Stages.{stageAt}
 use Rattle.pixels.specs.Way as Way
@@ -17,7 +22,7 @@ use Rattle.draw.specs.Checks.{earlyCheck, lateCheck}
 use Rattle.draw.specs.Draw.{DrawArgs, boundTo, drawCheck, drawOf}
 use Rattle.draw_reads.specs.Items.{Item, drawItems, itemsWork}
 use Rattle.guests.specs.Calls.{Shared}
-use Rattle.guests.specs.Draws.{Draws, DrawReads, drawWrites}
+use Rattle.guests.specs.Draws.{Draws, inScissor}
 
 -- A draw as a guest makes it. units: the names of the four units' textures.
 pub record DrawCall : Type 0 where
@@ -72,9 +77,34 @@ parts x = record {
 abbrev pub withFrame : Shared → List ℕ → List Float → Shared
 withFrame s cs ds = record { width = s .width; height = s .height; colors = cs; depths = ds; store = s .store; textures = s .textures }
 
+-- ---- what it reads and writes
+
+-- it is not refused
+abbrev pub Passed : DrawCall → Shared → Type 0
+Passed x s = (eqb (earlyNumber x s) 0 ≡ true) × (eqb (lateNumber x s) 0 ≡ true)
+
+-- the bytes of the texels that its fragments take, each on the frame that it finds
+abbrev pub takenOf : DrawCall → Shared → List ℕ
+takenOf x s = takenBy drawn (namesOf x) (inScissor (parts x)) (parts x .work) s
+
+-- 01: the textures of the units that its stages name, once the checks before 8 are passed; the bytes of the texels that it takes at
+-- every pixel that gets as far as its stages; and the pixels of its box
+abbrev pub drawReads : DrawCall → Shared → Place → Type 0
+drawReads x s sizes = Unit {0}
+drawReads x s (pixel p) = Passed x s × (pixelIn (s .width) (s .height) (scissorOf x) p ≡ true)
+drawReads x s (byte b) = Passed x s × In b (takenOf x s)
+drawReads x s (texture n) = (eqb (earlyNumber x s) 0 ≡ true) × In n (namesOf x)
+
+-- the pixels of its box, unless it is refused
+abbrev pub drawTouches : DrawCall → Shared → Place → Bool
+drawTouches x s sizes = false
+drawTouches x s (pixel p) = cond (eqb (earlyNumber x s) 0) (cond (eqb (lateNumber x s) 0) (pixelIn (s .width) (s .height) (scissorOf x) p) false) false
+drawTouches x s (byte b) = false
+drawTouches x s (texture n) = false
+
 abbrev pub drawing : DrawCall → Act Shared Answer Place
 drawing x = record {
   does = λ s. let o = drawOf (s .store) (s .width) (s .height) (x .args) (recordsOf x (s .textures)) (s .colors) (s .depths) in (o .answer, withFrame s (o .colors) (o .depths));
-  Reads = DrawReads (parts x);
-  writes = drawWrites (parts x);
+  Reads = drawReads x;
+  writes = drawTouches x;
 }

@@ -13,21 +13,16 @@ use Rattle.lists.specs.Lists.{all}
 use Rattle.lists.proofs.Choice.{was-true, true-false}
 use Rattle.settings.specs.declared.Scissor.{Scissor}
 use Rattle.scissor.specs.Scissor.{pixelIn}
-use Rattle.isolation.specs.Machine.{Guest, Turn, Moment, Machine, In, Own, answer, WritesAt, ReadsAt}
+use Rattle.isolation.specs.Machine.{Guest, Moment, In, Own, answer, WritesAt, ReadsAt}
 use Rattle.isolation.specs.Acts.{Uses}
 use Rattle.frames.specs.State.{Place, byte, texture, Answer, isRefused}
-use Rattle.frames.specs.Windows.{machine}
-use Rattle.frames.specs.Fragments.{takenBy}
 use Rattle.guests.specs.Calls.{Shared}
-use Rattle.guests.specs.Guests.{clearColor, clearDepth, draw, defineLevel, patchLevel, setParameter, meaning, InBox, InWindow, badTarget}
-use Rattle.guests.specs.Draws.{inScissor}
-use Rattle.guest_draws.specs.Draw.{DrawCall, namesOf, parts, drawing, scissorOf}
+use Rattle.guests.specs.Guests.{clearColor, clearDepth, draw, defineLevel, patchLevel, setParameter, meaning, InBox, InWindow}
+use Rattle.guest_draws.specs.Draw.{DrawCall, namesOf, takenOf, drawing, scissorOf}
 use Rattle.guest_draws.specs.SixCalls.{SixCall}
 use Rattle.worked_guests.specs.Worked.{window}
-use Rattle.worked_guests.proofs.Uses.{NamesOf, uses-of}
-
-abbrev pub M : Machine Shared Answer Place SixCall
-M = machine (meaning drawing scissorOf) (InBox drawing scissorOf) (InWindow window) badTarget
+use Rattle.worked_guests.proofs.Uses.{uses-of}
+use Rattle.worked_draws.specs.Worked.{M}
 
 abbrev pub Then : Type 0
 Then = Moment Shared Place SixCall
@@ -102,7 +97,7 @@ module _ (g : Guest) (s : Shared) (last : Place → Option Guest) where
   -- a draw in its guest's window, with textures of its own or texture 3, that takes bytes that nobody or its guest wrote last
   pub good-draw : (x : DrawCall) → ((p : ℕ) → pixelIn 2 1 (scissorOf x) p ≡ true → InWindow window 2 1 g p)
       → ((n : ℕ) → In n (namesOf x) → (g ≡ n) ⊎ (n ≡ 3))
-      → all (λ b. ownedBy g (last (byte b))) (takenBy (parts x .canvas) (parts x .names) (inScissor (parts x)) (parts x .work) s) ≡ true
+      → all (λ b. ownedBy g (last (byte b))) (takenOf x s) ≡ true
       → Good (made (draw x))
   good-draw x f names bytes = record {
     box = λ r. f;

@@ -17,9 +17,9 @@ use Rattle.guest_draws.specs.SixCalls.{SixCall}
 use Rattle.worked_guests.specs.Worked.{window}
 use Rattle.worked_guests.proofs.Worked.{disjoint}
 use Rattle.worked_guests.proofs.Uses.{NamesOf, uses-of}
-use Rattle.worked_draws.specs.Worked.{start, overwritten, BytesNeeded}
+use Rattle.worked_draws.specs.Worked.{M, start, overwritten, BytesNeeded}
 use Rattle.worked_draws.proofs.Opened.{opened}
-use Rattle.worked_draws.proofs.Good.{M, All, each}
+use Rattle.worked_draws.proofs.Good.{All, each}
 
 abbrev By : DrawCall → ℕ → Type 0
 By x m = In m (namesOf x)

@@ -6,8 +6,8 @@ use mathlib.Core.Option.{Option}
 use mathlib.Core.List.{List, [], _∷_}
 use Prim.Native.Nat.{ℕ}
 use native.Mathlib.Omega.{arith}
-use Rattle.isolation.specs.Machine.{Guest, Turn, answersOf, billOf, run, next, nobody, mark, moments}
-use Rattle.frames.specs.State.{Place, done, drew, refused}
+use Rattle.isolation.specs.Machine.{Guest, Turn, next, nobody, mark, moments}
+use Rattle.frames.specs.State.{Place}
 use Rattle.frames.specs.Windows.{Inside, TexturesApart, BytesApart, During}
 use Rattle.guests.specs.Calls.{Shared}
 use Rattle.guests.specs.Guests.{meaning, InBox, InWindow, badTarget, GuestPremises, GuestClaim}
@@ -16,41 +16,16 @@ use Rattle.guest_draws.specs.SixCalls.{SixCall}
 use Rattle.guest_draws.proofs.Demand3.{demand-3}
 use Rattle.worked_guests.specs.Worked.{window}
 use Rattle.worked_guests.proofs.Worked.{disjoint, taller}
-use Rattle.worked_draws.specs.Worked.{start, calls, defines0, defines1, clears0, clears1, draws0, defines2, hidden0, shares1, shares0, patches1, sets1, draws1, badColor, badDepth, badStage, badVertex, badDefine, badPatch, badSet}
+use Rattle.worked_draws.specs.Worked.{M, Comes, start, calls, defines0, defines1, clears0, clears1, draws0, defines2, hidden0, shares1, shares0, patches1, sets1, draws1, badColor, badDepth, badStage, badVertex, badDefine, badPatch, badSet}
 use Rattle.worked_draws.proofs.Opened.{opened}
-use Rattle.worked_draws.proofs.Good.{M, Then, All, each, Good, made, good-define, good-patch, good-set, good-clear-depth, good-draw, good-refused}
+use Rattle.worked_draws.proofs.Good.{Then, All, each, Good, made, good-define, good-patch, good-set, good-clear-depth, good-draw, good-refused}
 use Rattle.worked_draws.proofs.States.{s1, s2, s3, s4, s5, s6, s8, s9, s10, s11, s12, s13, s14, w0, w1, w2, w3, w4, w5, w6, w7, w8, w9, w10, w11, w12, w13, w14, w15, w16, w17, w18, defines0-leaves, defines1-leaves, clears0-leaves, clears1-leaves, draws0-leaves, defines2-leaves, hidden0-leaves, shares1-leaves, shares0-leaves, patches1-leaves, sets1-leaves, draws1-leaves, badColor-leaves, badDepth-leaves, badStage-leaves, badVertex-leaves}
 
--- ---- what is answered, and the bills
+-- ---- what is answered, the bills, the colours in the end
 
-answers-0 : answersOf M 0 calls start ≡ done ∷ done ∷ drew 1 ∷ drew 0 ∷ drew 1 ∷ refused 4 ∷ refused 12 ∷ []
+pub comes : Comes
 unfolding opened
-answers-0 = refl
-
-answers-1 : answersOf M 1 calls start ≡ done ∷ done ∷ drew 1 ∷ done ∷ done ∷ drew 1 ∷ refused 2 ∷ refused 9 ∷ []
-unfolding opened
-answers-1 = refl
-
-answers-2 : answersOf M 2 calls start ≡ done ∷ refused 6 ∷ refused 5 ∷ refused 16 ∷ []
-unfolding opened
-answers-2 = refl
-
-bill-0 : billOf M 0 calls start ≡ 2
-unfolding opened
-bill-0 = refl
-
-bill-1 : billOf M 1 calls start ≡ 2
-unfolding opened
-bill-1 = refl
-
-bill-2 : billOf M 2 calls start ≡ 0
-unfolding opened
-bill-2 = refl
-
--- pixel 0 has the texel of texture 3, pixel 1 the patched one of texture 1
-colours : run M calls start .colors ≡ 50 ∷ 60 ∷ 70 ∷ 80 ∷ 4 ∷ 3 ∷ 2 ∷ 1 ∷ []
-unfolding opened
-colours = refl
+comes = record { answers-0 = refl; answers-1 = refl; answers-2 = refl; bill-0 = refl; bill-1 = refl; bill-2 = refl; colours = refl }
 
 -- ---- the premises
 

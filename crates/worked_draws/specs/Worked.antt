@@ -1,5 +1,6 @@
 -- A worked list of calls by three guests that meets the premises, with textured draws under a depth test and a refused call of each
 -- kind; and a list that breaks the rule on bytes. A frame of 2 by 1 pixels and a store of three texels.
+use mathlib.Core.Path.{_≡_}
 use mathlib.Core.Bool.{true, false, cond}
 use mathlib.Core.List.{List, [], _∷_}
 use Prim.Native.Nat.{ℕ}
@@ -28,9 +29,10 @@ use Rattle.levels.specs.declared.Filter.the-variants.{Nearest}
 use Rattle.levels.specs.declared.Wrap.the-variants.{Repeat}
 use Rattle.levels.specs.Levels.{newTexture, levelAt, absent}
 use Rattle.vertices.specs.declared.Vertex.{Vertex}
-use Rattle.isolation.specs.Machine.{Guest, Turn}
+use Rattle.isolation.specs.Machine.{Guest, Turn, Machine, answersOf, billOf, run}
+use Rattle.frames.specs.State.{Place, Answer, done, drew, refused}
 use Rattle.guests.specs.Calls.{Shared}
-use Rattle.frames.specs.Windows.{Disjoint, Inside, TexturesApart}
+use Rattle.frames.specs.Windows.{machine, Disjoint, Inside, TexturesApart}
 use Rattle.guests.specs.Guests.{clearColor, clearDepth, draw, defineLevel, patchLevel, setParameter, meaning, InBox, InWindow, badTarget, GuestClaim}
 use Rattle.guest_draws.specs.Draw.{DrawCall, drawing, scissorOf}
 use Rattle.guest_draws.specs.SixCalls.{SixCall}
@@ -190,6 +192,20 @@ calls =
     ∷ hidden0 ∷ shares1 ∷ shares0 ∷ patches1 ∷ sets1 ∷ draws1
     ∷ badColor ∷ badDepth ∷ badStage ∷ badVertex ∷ badDefine ∷ badPatch
     ∷ badSet ∷ []
+
+abbrev pub M : Machine Shared Answer Place SixCall
+M = machine (meaning drawing scissorOf) (InBox drawing scissorOf) (InWindow window) badTarget
+
+-- what each guest is answered, its bill, and the colours in the end: pixel 0 has the texel of texture 3, pixel 1 the patched texel of
+-- texture 1
+pub record Comes : Type 0 where
+  pub answers-0 : answersOf M 0 calls start ≡ done ∷ done ∷ drew 1 ∷ drew 0 ∷ drew 1 ∷ refused 4 ∷ refused 12 ∷ []
+  pub answers-1 : answersOf M 1 calls start ≡ done ∷ done ∷ drew 1 ∷ done ∷ done ∷ drew 1 ∷ refused 2 ∷ refused 9 ∷ []
+  pub answers-2 : answersOf M 2 calls start ≡ done ∷ refused 6 ∷ refused 5 ∷ refused 16 ∷ []
+  pub bill-0 : billOf M 0 calls start ≡ 2
+  pub bill-1 : billOf M 1 calls start ≡ 2
+  pub bill-2 : billOf M 2 calls start ≡ 0
+  pub colours : run M calls start .colors ≡ 50 ∷ 60 ∷ 70 ∷ 80 ∷ 4 ∷ 3 ∷ 2 ∷ 1 ∷ []
 
 -- ---- the rule on bytes broken
 
