@@ -9,7 +9,7 @@ use native.Mathlib.Omega.{arith}
 use lib.ListN.{length, getD}
 use Rattle.isolation.specs.Machine.{In}
 use Rattle.lists.specs.Lists.{turns, between}
-use Rattle.frames.specs.Fragments.{paint, taken, Canvas, Work, shown, Fits, SameLengths, FragLocal}
+use Rattle.frames.specs.Fragments.{paint, taken, spread, grid, Canvas, Work, shown, Fits, SameLengths, FragLocal}
 
 pub in-left : {A : Type 0} (a : A) (xs ys : List A) → In a xs → In a (xs ++ ys)
 in-left a [] ys i = absurd i
@@ -93,11 +93,6 @@ module _ {Item C : Type 0} (canvas : Canvas C) (w : Work Item C) (law : FragLoca
 
 -- ---- loops over numbers as runs over items
 
--- the items of the numbers k, k + 1, .., k + n - 1
-unfoldable pub spread : {Item : Type 0} → (ℕ → List Item) → ℕ → ℕ → List Item
-spread f k zero = []
-spread f k (suc n) = f k ++ spread f (k + 1) n
-
 module _ {Item Canvas : Type 0} (step : Item → Canvas → Canvas) where
   pub paint-append : (is js : List Item) (c : Canvas) → paint step (is ++ js) c ≡ paint step js (paint step is c)
   unfolding paint
@@ -128,10 +123,6 @@ in-spread f k (suc n) i P h x = go (in-either i (f k) (spread f (k + 1) n) x) (i
     go (inr y) r = r (λ j a b z. h j (omega arith) (omega arith) z) y
 
 -- ---- a loop over rows, with a loop over columns in it
-
--- the items of the columns x0 to x1 and the rows y0 to y1, row by row
-unfoldable pub grid : {Item : Type 0} → (ℕ → ℕ → Item) → ℕ → ℕ → ℕ → ℕ → List Item
-grid f x0 x1 y0 y1 = spread (λ y. spread (λ x. f x y ∷ []) x0 (x1 - x0)) y0 (y1 - y0)
 
 pub grid-paint : {Item Canvas : Type 0} (step : Item → Canvas → Canvas) (f : ℕ → ℕ → Item) (x0 x1 y0 y1 : ℕ) (c : Canvas)
     → between (λ y. between (λ x. step (f x y)) x0 x1) y0 y1 c ≡ paint step (grid f x0 x1 y0 y1) c

@@ -74,18 +74,18 @@ module _ (cs : List ℕ) (p : ℕ) (x : Pixel) (f : p * 4 + 4 ≤ length cs) whe
   unfolding putColor
   put-alpha = getD-set-same c (p * 4 + 3) (x .alpha) 0 (simp length-set (omega arith))
 
-put-here : (d : Drawn) (p : ℕ) (x : Pixel) → Fits drawn d p → pixelAt (putColor (d .colors) p x) (set (d .depths) p (x .depth)) p ≡ x
+pub put-here : (d : Drawn) (p : ℕ) (x : Pixel) → Fits drawn d p → pixelAt (putColor (d .colors) p x) (set (d .depths) p (x .depth)) p ≡ x
 unfolding pixelAt
 put-here d p x f =
     pixel-is _ _ (put-red (d .colors) p x (f .0)) (put-green (d .colors) p x (f .0)) (put-blue (d .colors) p x (f .0)) (put-alpha (d .colors) p x (f .0))
     (getD-set-same (d .depths) p (x .depth) nan (f .1))
 
-put-lengths : (d : Drawn) (p : ℕ) (o : Option Pixel) → SameLengths drawn (putPixel d p o) d
+pub put-lengths : (d : Drawn) (p : ℕ) (o : Option Pixel) → SameLengths drawn (putPixel d p o) d
 unfolding putPixel
 put-lengths d p none = (refl, refl)
 put-lengths d p (some x) = (length-putColor (d .colors) p x, length-set (d .depths) p (x .depth))
 
-put-other : (d : Drawn) (p q : ℕ) (o : Option Pixel) → q ≢ p → shown drawn (putPixel d p o) q ≡ shown drawn d q
+pub put-other : (d : Drawn) (p q : ℕ) (o : Option Pixel) → q ≢ p → shown drawn (putPixel d p o) q ≡ shown drawn d q
 unfolding putPixel
 put-other d p q none n = refl
 put-other d p q (some x) n = pixel-of _ _ _ _ q (λ j a b. putColor-other (d .colors) p j x (side j a b)) (getD-set-other (d .depths) p q (x .depth) nan n)

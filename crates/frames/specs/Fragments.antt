@@ -3,7 +3,7 @@ use mathlib.Core.Path.{_≡_}
 use mathlib.Core.Logic.{_≢_}
 use mathlib.Core.Bool.{Bool, true, false}
 use mathlib.Core.List.{List, [], _∷_, _++_}
-use Prim.Native.Nat.{ℕ, _+_, _*_, _≤_, _<_}
+use Prim.Native.Nat.{ℕ, zero, suc, _+_, _-_, _*_, _≤_, _<_}
 use lib.ListN.{length, getD}
 use lib.Ieee.{Float}
 use Rattle.isolation.specs.Machine.{Act, In}
@@ -18,6 +18,15 @@ paint step (i ∷ is) c = paint step is (step i c)
 unfoldable pub taken : {Item Canvas : Type 0} → (Item → Canvas → Canvas) → (Item → Canvas → List ℕ) → List Item → Canvas → List ℕ
 taken step took [] c = []
 taken step took (i ∷ is) c = took i c ++ taken step took is (step i c)
+
+-- the items of the numbers k, k + 1, .., k + n - 1
+unfoldable pub spread : {Item : Type 0} → (ℕ → List Item) → ℕ → ℕ → List Item
+spread f k zero = []
+spread f k (suc n) = f k ++ spread f (k + 1) n
+
+-- the items of the columns x0 to x1 and the rows y0 to y1, row by row
+unfoldable pub grid : {Item : Type 0} → (ℕ → ℕ → Item) → ℕ → ℕ → ℕ → ℕ → List Item
+grid f x0 x1 y0 y1 = spread (λ y. spread (λ x. f x y ∷ []) x0 (x1 - x0)) y0 (y1 - y0)
 
 -- What a definition of a draw works on: the colours and depths so far, and how many pixels were written.
 pub record Canvas (C : Type 0) : Type 0 where

@@ -2,4 +2,3 @@ pub mod Uses
 pub mod Opened
 pub mod Worked
 pub mod Needed
-pub mod OnePixel

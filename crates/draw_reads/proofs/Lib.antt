@@ -1,0 +1,4 @@
+pub mod Taken
+pub mod Runs
+pub mod Pixels
+pub mod Takes

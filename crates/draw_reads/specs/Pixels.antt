@@ -1,0 +1,33 @@
+-- What becomes of one pixel in a draw: its own fragments, one after the other, from its own colour and depth.
+use Prim.Native.Nat.{ℕ}
+use mathlib.Core.Bool.{cond}
+use mathlib.Core.Option.{Option, none, some}
+use mathlib.Core.List.{List, [], _∷_, _++_}
+use lib.Dec.{eqb}
+use Rattle.frames.specs.State.{Pixel}
+use Rattle.frames.specs.Gather.{Frag}
+use Rattle.pixels.specs.Way.{Drawing, fragAt}
+use Rattle.draw_reads.specs.Items.{Item, pixelNo}
+
+-- the fragments at pixel q of a target so many pixels wide, in order
+unfoldable pub fragmentsAt : ℕ → ℕ → List Item → List Item
+fragmentsAt width q [] = []
+fragmentsAt width q (i ∷ l) = cond (eqb (pixelNo width i) q) (i ∷ fragmentsAt width q l) (fragmentsAt width q l)
+
+abbrev pub fragOf : List ℕ → Drawing → Item → Pixel → Frag
+fragOf st d i x = fragAt st d (i .tri) (i .px) (i .py) x
+
+-- a fragment that is dropped leaves the pixel as it was
+abbrev pub leftOr : Pixel → Option Pixel → Pixel
+leftOr x none = x
+leftOr x (some y) = y
+
+-- each fragment finds the pixel that the one before it left
+unfoldable pub pixelAfter : List ℕ → Drawing → List Item → Pixel → Pixel
+pixelAfter st d [] x = x
+pixelAfter st d (i ∷ l) x = pixelAfter st d l (leftOr x (fragOf st d i x .put))
+
+-- the store bytes that they take
+unfoldable pub pixelTook : List ℕ → Drawing → List Item → Pixel → List ℕ
+pixelTook st d [] x = []
+pixelTook st d (i ∷ l) x = fragOf st d i x .took ++ pixelTook st d l (leftOr x (fragOf st d i x .put))

@@ -1,0 +1,2 @@
+pub mod Draw
+pub mod SixCalls

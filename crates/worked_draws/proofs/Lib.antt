@@ -1,0 +1,9 @@
+pub mod Numbers
+pub mod Textures
+pub mod Pixels
+pub mod Shapes
+pub mod Opened
+pub mod Good
+pub mod States
+pub mod Worked
+pub mod Needed

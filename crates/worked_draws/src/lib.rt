@@ -1,0 +1,1 @@
+// Worked lists of guests' calls with draws among them. All of it is in specs/ and proofs/.
