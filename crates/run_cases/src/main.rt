@@ -2,8 +2,10 @@
 mod decode;
 mod lines;
 mod target;
+mod triangles;
 
 fn main() {
     decode::run();
     target::run();
+    triangles::run();
 }

@@ -16,7 +16,7 @@ returns-2 : tie.Need-returns-2
 returns-2 c = no-pixels _ (drawing (c .before .before .before .before .before .before .before .before .before .args .state) (c .before .before .before .before .before .before .before .before .before .args .stages) (c .before .before .before .before .before .before .before .before .before .args .count) (c .before .before .before .before .before .before .before .before .before .args .textures)) (c .before .before .before .before .before .before .before .before .before .args .width) (c .before .before .before .before .before .before .before .before .before .args .height) (c .before .before .before .before .before .before .before .before .before .args .a) (c .before .before .before .before .before .before .before .before .before .args .b) (c .before .before .before .before .before .before .before .before .before .args .c) _ (was-so (c .before .before .before .before .viewport-draws .ensures) (c .before .before .before .if1 .left)) (sym (c .before .before .scissor-bounds .ensures) ∙ c .enum-told .given .1)
 
 draw-left-requires : tie.Need-draw-left-requires
-draw-left-requires c κs = 
+draw-left-requires c κs =
     let t = target-is (c .before .before .before .before .before .before .before .before .before .before .before .before .before .before .before .args .width) (c .before .before .before .before .before .before .before .before .before .before .before .before .before .before .before .args .height) _ _ (c .before .before .before .before .before .before .before .before .before .before .before .before .before .before .before .pre .0) in
     let b = box-inside (c .before .before .before .before .before .before .before .before .before .before .before .before .before .before .before .args .width) (c .before .before .before .before .before .before .before .before .before .before .before .before .before .before .before .args .height) (c .before .before .before .before .before .before .before .before .before .before .before .before .before .before .before .args .state .scissor) (sym (c .before .before .before .before .before .before .x0 .given .1) ∙ c .before .before .before .before .before .before .before .before .scissor-bounds .ensures) in
     (c .before .before .before .thresholds .ensures, (c .before .before .before .before .before .before .before .before .before .before .before .before .before .before .before .pre .1, ((b .1, omega (arith, b .3, t .1), t .0), (rows-fit (c .before .before .before .before .before .before .before .before .before .before .before .before .before .before .before .args .width) (c .before .before .before .before .before .before .before .before .before .before .before .before .before .before .before .args .height) (b .3) (t .3), omega (arith, t .2, t .3)))))

@@ -1,6 +1,5 @@
 use mathlib.Core.Path.{sym, ap, _∙_}
 use Rattle.answers.specs.Numbers.{numberOf}
-
 use Rattle.draw.proofs.Passed.{early-target, early-stages, stages-few, stages-fit, late-records, refused-late, drew-it}
 use borrow.Author.Needs.{needs}
 use Rattle.draw.proofs.draw_named.Statement.{statement}
@@ -13,7 +12,7 @@ check-late-requires : tie.Need-check-late-requires
 check-late-requires c κs = stages-few _ _ (early-stages _ _ _ _ (c .before .before .before .before .args .state) _ _ (c .before .before .before .before .pre))
 
 draw-checked-requires : tie.Need-draw-checked-requires
-draw-checked-requires c κs = 
+draw-checked-requires c κs =
     let st = early-stages _ _ _ _ (c .before .before .before .before .before .before .before .before .before .args .state) _ _ (c .before .before .before .before .before .before .before .before .before .pre) in
     (early-target _ _ _ _ (c .before .before .before .before .before .before .before .before .before .args .state) _ _ (c .before .before .before .before .before .before .before .before .before .pre), stages-fit _ _ st _ _ (late-records _ _ _ _ _ _ (sym (c .before .before .before .before .check-late .ensures) ∙ ap numberOf (c .before .before .enum-told .given .1))))
 
