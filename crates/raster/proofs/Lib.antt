@@ -1,3 +1,4 @@
 pub mod Fills
 pub mod Setups
 pub mod Fans
+pub mod Corners
