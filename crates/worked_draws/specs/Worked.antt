@@ -41,6 +41,9 @@ use Rattle.worked_guests.specs.Worked.{window, column}
 abbrev pub minusOne : Float
 minusOne = Ieee.ofBits binary32 0xbf80_0000
 
+abbrev pub three : Float
+three = Ieee.ofBits binary32 0x4040_0000
+
 -- a texture of one texel, by its place and its magnifying filter
 abbrev pub oneTexel : ℕ → Filter → Texture
 oneTexel place f = record {
@@ -115,6 +118,10 @@ leftHalf n z = textured 0 n (column 0 9) (corner minusOne minusOne z) (corner on
 abbrev pub rightHalf : ℕ → Float → DrawCall
 rightHalf n z = textured 0 n (column 1 1) (corner minusOne minusOne z) (corner one32 minusOne z) (corner one32 one32 z)
 
+-- the whole frame, from corners past it, so it is clipped; the scissor is the left column
+abbrev pub clippedWhole : ℕ → Float → DrawCall
+clippedWhole n z = textured 0 n (column 0 9) (corner minusOne minusOne z) (corner three minusOne z) (corner minusOne three z)
+
 abbrev pub turn : Guest → SixCall → Turn SixCall
 turn g c = record { who = g; call = c }
 
@@ -148,8 +155,9 @@ hidden0 = turn 0 (draw (leftHalf 0 zero32))
 abbrev pub shares1 : Turn SixCall
 shares1 = turn 1 (draw (rightHalf 3 zero32))
 
+-- clipped, and with the texture that guest 1 drew with
 abbrev pub shares0 : Turn SixCall
-shares0 = turn 0 (draw (leftHalf 3 minusOne))
+shares0 = turn 0 (draw (clippedWhole 3 minusOne))
 
 abbrev pub patches1 : Turn SixCall
 patches1 = turn 1 (patchLevel 1 0 0 0 1 1 (4 ∷ 3 ∷ 2 ∷ 1 ∷ []))
