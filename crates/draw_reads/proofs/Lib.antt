@@ -2,3 +2,4 @@ pub mod Taken
 pub mod Runs
 pub mod Pixels
 pub mod Takes
+pub mod Counts

@@ -4,10 +4,10 @@ use mathlib.Core.Path.{_≡_, refl, sym, ap, _∙_}
 use mathlib.Core.Logic.{inl, inr, _≢_}
 use mathlib.Core.Bool.{Bool, true, false, cond, true≢false}
 use mathlib.Core.Option.{Option, none, some}
-use mathlib.Core.List.{List, [], _∷_, _++_}
+use mathlib.Core.List.{List, [], _∷_}
 use Prim.Native.Nat.{ℕ, _+_, _*_, _≤_, _<_}
 use lib.Dec.{eqb}
-use lib.ListN.{length, getD}
+use lib.ListN.{length}
 use lib.Ieee.{Float}
 use borrow.Author.Tests.{eqb-true, eq-eqb}
 use Rattle.vertices.specs.declared.Vertex.{Vertex}
@@ -31,17 +31,17 @@ put-left c p none f = refl
 put-left c p (some x) f = put-here c p x f
 
 module _ (st : List ℕ) (d : Drawing) (width : ℕ) where
-  fits-on : (i : Item) (c : Drawn) (q : ℕ) → Fits drawn c q → Fits drawn (step st d width i c) q
+  pub fits-on : (i : Item) (c : Drawn) (q : ℕ) → Fits drawn c q → Fits drawn (step st d width i c) q
   unfolding pixelOf
   fits-on i c q f =
       let k = put-lengths c (pixelNo width i) (fragOf st d i (shown drawn c (pixelNo width i)) .put) in
       (rw (k .0) (f .0), rw (k .1) (f .1))
 
-  at-one : (i : Item) (c : Drawn) (q : ℕ) → pixelNo width i ≡ q → Fits drawn c q → shown drawn (step st d width i c) q ≡ leftOr (shown drawn c q) (fragOf st d i (shown drawn c q) .put)
+  pub at-one : (i : Item) (c : Drawn) (q : ℕ) → pixelNo width i ≡ q → Fits drawn c q → shown drawn (step st d width i c) q ≡ leftOr (shown drawn c q) (fragOf st d i (shown drawn c q) .put)
   unfolding pixelOf
   at-one i c q e f = rw (← e) (put-left c (pixelNo width i) _ (rw e f))
 
-  past-one : (i : Item) (c : Drawn) (q : ℕ) → (q ≢ pixelNo width i) → shown drawn (step st d width i c) q ≡ shown drawn c q
+  pub past-one : (i : Item) (c : Drawn) (q : ℕ) → (q ≢ pixelNo width i) → shown drawn (step st d width i c) q ≡ shown drawn c q
   unfolding pixelOf
   past-one i c q n = put-other c (pixelNo width i) q _ n
 

@@ -2,12 +2,10 @@
 use mathlib.Core.Path.{_≡_, refl, sym, ap, _∙_}
 use mathlib.Core.Logic.{_⊎_, inl, inr}
 use mathlib.Core.Bool.{Bool, true, false, cond}
-use mathlib.Core.List.{List, [], _∷_, _++_}
-use Prim.Native.Nat.{ℕ, _+_, _*_, _≤_, _<_}
+use mathlib.Core.List.{List, [], _∷_}
+use Prim.Native.Nat.{ℕ, _≤_, _<_}
 use native.Mathlib.Omega.{arith}
-use lib.Dec.{leb, ltb}
 use borrow.Author.Tests.{lt-ltb, le-leb}
-use Rattle.lists.specs.Lists.{between}
 use Rattle.settings.specs.declared.Cull.{Cull}
 use Rattle.settings.specs.declared.DepthRange.{DepthRange}
 use Rattle.settings.specs.declared.FrontFace.{FrontFace}
@@ -26,16 +24,16 @@ use Rattle.setup.specs.declared.PixelBox.{PixelBox}
 use Rattle.setup.specs.declared.Raster.{Raster}
 use Rattle.setup.specs.declared.Setup.{Setup}
 use Rattle.setup.specs.declared.Setup.the-variants.{Nothing, Draws}
-use Rattle.setup.specs.Setup.{withCorner, onScreen, setupOf}
+use Rattle.setup.specs.Setup.{withCorner, setupOf}
 use Rattle.setup.proofs.Outcomes.{Within, drawn-within}
 use Rattle.coverage.specs.declared.Primitive.{Primitive}
 use Rattle.isolation.specs.Machine.{In}
-use Rattle.frames.specs.Fragments.{paint, grid}
+use Rattle.frames.specs.Fragments.{paint}
 use Rattle.frames.specs.Gather.{Drawn}
 use Rattle.frames.proofs.Fragments.{in-either, paint-append, grid-paint, in-grid}
 use Rattle.pixels.specs.Way.{Drawing, pixelOf}
 use Rattle.raster.specs.Fill.{primitiveOf, rowOf, fillOf, fillBy, setupFor, rasterOf, leftDrawn, inBoundsDrawn, drawnOf}
-use Rattle.draw_reads.specs.Items.{Item, itemAt, pixelNo, boxItems, setupItems, triangleItems, eachItems, boundsItems, drawItems, itemsWork}
+use Rattle.draw_reads.specs.Items.{Item, itemAt, boxItems, setupItems, triangleItems, eachItems, boundsItems, drawItems}
 
 -- ---- the loops are a run
 

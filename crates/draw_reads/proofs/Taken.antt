@@ -1,18 +1,15 @@
 -- A pixel's way hangs on the store's bytes that it tells it takes, and on no others: the law of a fragment. Assumes nothing.
-use mathlib.Core.Path.{_≡_, refl, sym, ap, ap₂, _∙_}
-use mathlib.Core.Logic.{inl, inr}
+use mathlib.Core.Path.{_≡_, refl, ap, _∙_}
 use mathlib.Core.Bool.{Bool, true, false, cond}
-use mathlib.Core.List.{List, [], _∷_, _++_, map}
+use mathlib.Core.List.{List, []}
 use mathlib.Core.Option.{none}
-use Prim.Native.Nat.{ℕ, zero, suc, _+_, _*_}
+use Prim.Native.Nat.{ℕ, zero, suc}
 use lib.ListN.{getD}
 use lib.Ieee.{Float}
 use Rattle.lists.specs.Lists.{iter, flat}
 use Rattle.levels.specs.declared.Texture.{Texture}
-use Rattle.levels.specs.Levels.{levelOf, complete}
 use Rattle.settings.specs.declared.Rgba.{Rgba}
 use Rattle.settings.specs.declared.TextureStage.{TextureStage}
-use Rattle.fragment.specs.Fragment.{texEnvOf}
 use Rattle.gradients.specs.declared.PerCorner.{PerCorner}
 use Rattle.mipmaps.specs.declared.Coordinates.{Coordinates}
 use Rattle.sampler.specs.Addresses.{addressesOf}
@@ -27,7 +24,7 @@ use Rattle.coverage.specs.declared.Primitive.{Primitive}
 use Rattle.pixels.specs.declared.Fragment.{Fragment}
 use Rattle.pixels.specs.declared.Fragment.the-variants.{Dropped}
 use Rattle.coverage.specs.Coverage.{weightsOf, coveredBy, depthAt}
-use Rattle.stages.specs.Stages.{stageAt, textureAt, coordinatesOf, texelColor, stageColor, stageStep, stagesColor, stagesAddresses}
+use Rattle.stages.specs.Stages.{stageAt, textureAt, coordinatesOf, stageColor, stageStep, stagesColor, stagesAddresses}
 use Rattle.pixels.specs.Way.{Drawing, reaches, recOf, shadedOf, fogDepthOf, finished, fragmentOf, leftBy, fragAt}
 use Rattle.draw_reads.specs.Items.{Item, pixelNo, itemsWork}
 

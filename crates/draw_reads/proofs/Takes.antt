@@ -1,5 +1,5 @@
 -- A run of fragments takes a byte exactly if one of them gets as far as its stages and one of these takes it. Assumes nothing.
-use mathlib.Core.Path.{_≡_, refl, sym, ap, _∙_, subst}
+use mathlib.Core.Path.{_≡_, refl, ap, subst}
 use mathlib.Core.Logic.{_⊎_, inl, inr}
 use mathlib.Core.Bool.{Bool, true, false, cond}
 use mathlib.Core.Option.{none}
@@ -7,12 +7,9 @@ use mathlib.Core.List.{List, [], _∷_, _++_}
 use Prim.Native.Nat.{ℕ, zero, suc, _<_}
 use native.Mathlib.Decide.{decLt}
 use native.Mathlib.Omega.{arith}
-use lib.Ieee.{Float}
 use Rattle.lists.specs.Lists.{flat}
-use Rattle.gradients.specs.declared.PerCorner.{PerCorner}
-use Rattle.sampler.specs.Addresses.{addressesOf}
 use Rattle.coverage.specs.Coverage.{coveredBy}
-use Rattle.stages.specs.Stages.{stageAt, textureAt, coordinatesOf, stagesAddresses}
+use Rattle.stages.specs.Stages.{stagesAddresses}
 use Rattle.isolation.specs.Machine.{In}
 use Rattle.frames.specs.State.{Pixel, pixelAt}
 use Rattle.frames.specs.Fragments.{paint, taken}

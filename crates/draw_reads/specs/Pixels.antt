@@ -1,5 +1,5 @@
 -- What becomes of one pixel in a draw: its own fragments, one after the other, from its own colour and depth.
-use Prim.Native.Nat.{ℕ}
+use Prim.Native.Nat.{ℕ, zero, suc, _+_}
 use mathlib.Core.Bool.{cond}
 use mathlib.Core.Option.{Option, none, some}
 use mathlib.Core.List.{List, [], _∷_, _++_}
@@ -31,3 +31,17 @@ pixelAfter st d (i ∷ l) x = pixelAfter st d l (leftOr x (fragOf st d i x .put)
 unfoldable pub pixelTook : List ℕ → Drawing → List Item → Pixel → List ℕ
 pixelTook st d [] x = []
 pixelTook st d (i ∷ l) x = fragOf st d i x .took ++ pixelTook st d l (leftOr x (fragOf st d i x .put))
+
+-- how often they write it
+abbrev pub wrote : Option Pixel → ℕ
+wrote none = 0
+wrote (some y) = 1
+
+unfoldable pub pixelWrites : List ℕ → Drawing → List Item → Pixel → ℕ
+pixelWrites st d [] x = 0
+pixelWrites st d (i ∷ l) x = wrote (fragOf st d i x .put) + pixelWrites st d l (leftOr x (fragOf st d i x .put))
+
+-- f 0 + .. + f (n - 1)
+unfoldable pub total : ℕ → (ℕ → ℕ) → ℕ
+total zero f = 0
+total (suc n) f = total n f + f n

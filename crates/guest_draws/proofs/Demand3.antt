@@ -1,6 +1,5 @@
 -- Demand 3 for the six kinds of call. Assumes nothing.
 use mathlib.Core.Path.{_≡_, refl}
-use Prim.Native.Nat.{ℕ}
 use Rattle.settings.specs.declared.ScissorBox.{ScissorBox}
 use Rattle.isolation.specs.Machine.{Guest}
 use Rattle.frames.specs.State.{Place, sizes, pixel, byte, texture}

@@ -1,12 +1,11 @@
 -- What a draw reads and writes is 01's list, no less and no more. Assumes nothing.
-use mathlib.Core.Path.{_≡_, refl, sym, ap, _∙_}
+use mathlib.Core.Path.{_≡_, refl, sym, _∙_}
 use mathlib.Core.Logic.{_⊎_, inl, inr}
 use mathlib.Core.Bool.{Bool, true, false, cond, true≢false}
-use mathlib.Core.List.{List, [], _∷_, _++_}
+use mathlib.Core.List.{List, [], _∷_}
 use Prim.Native.Nat.{ℕ, zero, suc, _<_, _≤_}
 use native.Mathlib.Omega.{arith}
 use lib.Dec.{eqb, ltb, leb}
-use lib.ListN.{getD, length}
 use borrow.Author.Tests.{eqb-true, ltb-true, leb-true, lt-ltb}
 use Rattle.lists.specs.Lists.{tab}
 use Rattle.lists.proofs.Choice.{was-true, true-false}
@@ -17,11 +16,11 @@ use Rattle.settings.specs.declared.TextureStage.{TextureStage}
 use Rattle.scissor.specs.Scissor.{pixelIn}
 use Rattle.scissor.specs.Check.{targetFits, scissorFits}
 use Rattle.isolation.specs.Machine.{In}
-use Rattle.frames.specs.State.{Place, sizes, pixel, byte, texture, Answer, drew, refused}
+use Rattle.frames.specs.State.{Place, sizes, pixel, byte, texture, refused}
 use Rattle.frames.proofs.Fragments.{in-either}
 use Rattle.stages.specs.Stages.{stageAt, textureAt, noTexture}
 use Rattle.pixels.specs.Way.{drawnTo}
-use Rattle.draw.specs.Checks.{viewportFits, stateFits, fogFits, stageFits, stagesFit, recordsFit, verticesFit, allBelow, earlyCheck, lateCheck}
+use Rattle.draw.specs.Checks.{viewportFits, stateFits, fogFits, stageFits, stagesFit, earlyCheck}
 use Rattle.draw.specs.Draw.{boundAt, boundTo, drawCheck, drawPassed, drawOf, drewAll, outcome}
 use Rattle.draw.proofs.Below.{below-at}
 use Rattle.draw_reads.specs.Items.{drawItems}

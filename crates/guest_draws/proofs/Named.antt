@@ -2,12 +2,12 @@
 use mathlib.Core.Path.{_≡_, refl, sym, ap, ap₂, _∙_}
 use mathlib.Core.Logic.{inl}
 use mathlib.Core.Bool.{Bool, true, false, cond}
-use mathlib.Core.List.{List, [], _∷_, _++_}
+use mathlib.Core.List.{[], _∷_, _++_}
 use Prim.Native.Nat.{ℕ, zero, suc, _<_}
 use native.Mathlib.Decide.{decLt}
 use native.Mathlib.Omega.{arith}
 use lib.Dec.{ltb}
-use lib.ListN.{getD, length, List·getD-eq-default}
+use lib.ListN.{List·getD-eq-default}
 use borrow.Author.Tests.{ltb-true}
 use Rattle.lists.specs.Lists.{tab}
 use Rattle.lists.proofs.Tables.{length-tab, getD-tab}
@@ -16,7 +16,7 @@ use Rattle.levels.specs.Levels.{newTexture}
 use Rattle.isolation.specs.Machine.{In}
 use Rattle.frames.proofs.Fragments.{in-left, in-right}
 use Rattle.stages.specs.Stages.{stageAt, textureAt, noTexture}
-use Rattle.draw.specs.Draw.{boundAt, boundTo}
+use Rattle.draw.specs.Draw.{boundTo}
 use Rattle.guest_draws.specs.Draw.{DrawCall, nameAt, recordsOf, stageRecords, namesOf}
 
 -- ---- tables

@@ -1,32 +1,22 @@
 -- What a draw's parts do is what drawOf says, and the parts keep the laws of a draw's parts. Assumes nothing.
 use mathlib.Core.Path.{_≡_, refl, sym, ap, _∙_}
 use mathlib.Core.Bool.{Bool, true, false, cond, true≢false}
-use mathlib.Core.List.{List}
 use Prim.Native.Nat.{ℕ}
 use lib.Dec.{eqb}
 use lib.ListN.{length}
-use Rattle.lists.proofs.Choice.{was-true, was-false}
-use Rattle.levels.specs.declared.Texture.{Texture}
-use Rattle.settings.specs.declared.TextureStage.{TextureStage}
-use Rattle.settings.specs.declared.PipelineState.{PipelineState}
-use Rattle.scissor.specs.Scissor.{pixelIn}
 use Rattle.scissor.specs.Check.{targetFits}
-use Rattle.isolation.specs.Machine.{In}
 use Rattle.frames.specs.State.{Answer, drew, refused}
-use Rattle.frames.specs.Gather.{Drawn, drawn}
-use Rattle.frames.specs.Fragments.{Work, paint}
-use Rattle.pixels.specs.Way.{Drawing, pixelOf, drawnTo}
-use Rattle.raster.specs.Fill.{drawnOf}
-use Rattle.draw.specs.Checks.{earlyCheck, lateCheck}
+use Rattle.frames.specs.Gather.{Drawn}
+use Rattle.pixels.specs.Way.{pixelOf, drawnTo}
+use Rattle.draw.specs.Checks.{earlyCheck}
 use Rattle.draw.specs.Draw.{Outcome, outcome, drewAll, drawCheck, drawPassed, drawOf}
-use Rattle.draw_reads.specs.Items.{Item, drawItems, itemsWork}
 use Rattle.draw_reads.proofs.Taken.{items-local}
-use Rattle.draw_reads.proofs.Runs.{step, draw-runs, items-within}
+use Rattle.draw_reads.proofs.Runs.{draw-runs, items-within}
 use Rattle.guests.specs.Calls.{Shared}
 use Rattle.guests.specs.Draws.{painting, drawDoes, DrawLaws}
 use Rattle.guests.proofs.Choices.{one-number}
 use Rattle.guests.proofs.Draws.{pixel-in}
-use Rattle.guest_draws.specs.Draw.{DrawCall, recordsOf, stageRecords, namesOf, earlyNumber, lateNumber, drawingOf, parts, withFrame, drawing}
+use Rattle.guest_draws.specs.Draw.{DrawCall, recordsOf, earlyNumber, lateNumber, drawingOf, parts, withFrame, drawing}
 use Rattle.guest_draws.proofs.Named.{records-same}
 
 -- ---- the laws of the parts

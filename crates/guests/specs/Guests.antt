@@ -62,11 +62,11 @@ module _ {Draw : Type 0} (drawing : Draw → Act Shared Answer Place) (scissorOf
     abbrev pub GuestClaim : List (Turn (Call Draw)) → Shared → Type 0
     GuestClaim = Claim meaning InBox (InWindow window) badTarget
 
-    -- THE STATEMENT, for a draw that owes what every call owes. With the draw of 01 in its place it is demand 3.
+    -- THE STATEMENT, for a draw that owes what every call owes. With the draw of 01 in its place it is demand 3: guest_draws, specs/SixCalls.antt.
     abbrev pub EachAsAlone : Type 0
     EachAsAlone = ((d : Draw) → DrawOwes d) → (ms : List (Turn (Call Draw))) (s : Shared) → GuestPremises ms s → GuestClaim ms s
 
--- ---- Today: the five kinds of call without a draw
+-- ---- The five kinds of call without a draw
 
 abbrev pub noDrawing : ⊥ → Act Shared Answer Place
 noDrawing d = absurd d

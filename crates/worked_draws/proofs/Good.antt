@@ -1,11 +1,10 @@
 -- What the premises ask of one call, as it is made, and when a call of each kind keeps it. Assumes nothing.
-use mathlib.Core.Path.{_≡_, refl, sym, ap, _∙_, subst}
+use mathlib.Core.Path.{_≡_, sym, _∙_, subst}
 use mathlib.Core.Logic.{_⊎_, inl, inr, _≢_}
-use mathlib.Core.Bool.{Bool, true, false, cond, true≢false}
+use mathlib.Core.Bool.{Bool, true, false, true≢false}
 use mathlib.Core.Option.{Option, none, some}
 use mathlib.Core.List.{List, [], _∷_}
 use Prim.Native.Nat.{ℕ}
-use native.Mathlib.Omega.{arith}
 use lib.Dec.{eqb}
 use lib.Ieee.{Float}
 use borrow.Author.Tests.{eqb-true}
@@ -15,9 +14,9 @@ use Rattle.settings.specs.declared.Scissor.{Scissor}
 use Rattle.scissor.specs.Scissor.{pixelIn}
 use Rattle.isolation.specs.Machine.{Guest, Moment, In, Own, answer, WritesAt, ReadsAt}
 use Rattle.isolation.specs.Acts.{Uses}
-use Rattle.frames.specs.State.{Place, byte, texture, Answer, isRefused}
+use Rattle.frames.specs.State.{Place, byte, texture, isRefused}
 use Rattle.guests.specs.Calls.{Shared}
-use Rattle.guests.specs.Guests.{clearColor, clearDepth, draw, defineLevel, patchLevel, setParameter, meaning, InBox, InWindow}
+use Rattle.guests.specs.Guests.{clearDepth, draw, defineLevel, patchLevel, setParameter, meaning, InBox, InWindow}
 use Rattle.guest_draws.specs.Draw.{DrawCall, namesOf, takenOf, drawing, scissorOf}
 use Rattle.guest_draws.specs.SixCalls.{SixCall}
 use Rattle.worked_guests.specs.Worked.{window}

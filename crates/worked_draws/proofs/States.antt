@@ -12,7 +12,7 @@ use Rattle.levels.specs.declared.Filter.the-variants.{Nearest, Linear}
 use Rattle.isolation.specs.Machine.{Guest, next, nobody, mark}
 use Rattle.frames.specs.State.{Place}
 use Rattle.guests.specs.Calls.{Shared}
-use Rattle.worked_draws.specs.Worked.{M, start, oneTexel, defines0, defines1, clears0, clears1, draws0, defines2, hidden0, shares1, shares0, patches1, sets1, draws1, badColor, badDepth, badStage, badVertex, badDefine, badPatch, badSet}
+use Rattle.worked_draws.specs.Worked.{M, start, oneTexel, defines0, defines1, clears0, clears1, draws0, defines2, hidden0, shares1, shares0, patches1, sets1, draws1, badColor, badDepth, badStage, badVertex, badDefine, badPatch}
 use Rattle.worked_draws.proofs.Opened.{opened}
 
 -- the records under their names

@@ -1,5 +1,5 @@
 -- A worked list of calls by three guests that meets the premises, with textured draws under a depth test and a refused call of each
--- kind; and a list that breaks the rule on bytes. A frame of 2 by 1 pixels and a store of three texels.
+-- kind. A frame of 2 by 1 pixels and a store of three texels.
 use mathlib.Core.Path.{_≡_}
 use mathlib.Core.Bool.{true, false, cond}
 use mathlib.Core.List.{List, [], _∷_}
@@ -32,14 +32,17 @@ use Rattle.vertices.specs.declared.Vertex.{Vertex}
 use Rattle.isolation.specs.Machine.{Guest, Turn, Machine, answersOf, billOf, run}
 use Rattle.frames.specs.State.{Place, Answer, done, drew, refused}
 use Rattle.guests.specs.Calls.{Shared}
-use Rattle.frames.specs.Windows.{machine, Disjoint, Inside, TexturesApart}
-use Rattle.guests.specs.Guests.{clearColor, clearDepth, draw, defineLevel, patchLevel, setParameter, meaning, InBox, InWindow, badTarget, GuestClaim}
+use Rattle.frames.specs.Windows.{machine}
+use Rattle.guests.specs.Guests.{clearColor, clearDepth, draw, defineLevel, patchLevel, setParameter, meaning, InBox, InWindow, badTarget}
 use Rattle.guest_draws.specs.Draw.{DrawCall, drawing, scissorOf}
 use Rattle.guest_draws.specs.SixCalls.{SixCall}
 use Rattle.worked_guests.specs.Worked.{window, column}
 
 abbrev pub minusOne : Float
 minusOne = Ieee.ofBits binary32 0xbf80_0000
+
+abbrev pub three : Float
+three = Ieee.ofBits binary32 0x4040_0000
 
 -- a texture of one texel, by its place and its magnifying filter
 abbrev pub oneTexel : ℕ → Filter → Texture
@@ -115,6 +118,10 @@ leftHalf n z = textured 0 n (column 0 9) (corner minusOne minusOne z) (corner on
 abbrev pub rightHalf : ℕ → Float → DrawCall
 rightHalf n z = textured 0 n (column 1 1) (corner minusOne minusOne z) (corner one32 minusOne z) (corner one32 one32 z)
 
+-- the whole frame, from corners past it, so it is clipped; the scissor is the left column
+abbrev pub clippedWhole : ℕ → Float → DrawCall
+clippedWhole n z = textured 0 n (column 0 9) (corner minusOne minusOne z) (corner three minusOne z) (corner minusOne three z)
+
 abbrev pub turn : Guest → SixCall → Turn SixCall
 turn g c = record { who = g; call = c }
 
@@ -148,8 +155,9 @@ hidden0 = turn 0 (draw (leftHalf 0 zero32))
 abbrev pub shares1 : Turn SixCall
 shares1 = turn 1 (draw (rightHalf 3 zero32))
 
+-- clipped, and with the texture that guest 1 drew with
 abbrev pub shares0 : Turn SixCall
-shares0 = turn 0 (draw (leftHalf 3 minusOne))
+shares0 = turn 0 (draw (clippedWhole 3 minusOne))
 
 abbrev pub patches1 : Turn SixCall
 patches1 = turn 1 (patchLevel 1 0 0 0 1 1 (4 ∷ 3 ∷ 2 ∷ 1 ∷ []))
@@ -206,21 +214,3 @@ pub record Comes : Type 0 where
   pub bill-1 : billOf M 1 calls start ≡ 2
   pub bill-2 : billOf M 2 calls start ≡ 0
   pub colours : run M calls start .colors ≡ 50 ∷ 60 ∷ 70 ∷ 80 ∷ 4 ∷ 3 ∷ 2 ∷ 1 ∷ []
-
--- ---- the rule on bytes broken
-
--- guest 0 defines a level; guest 1 defines one of its own texture over its bytes; guest 0 draws with the first
-abbrev pub overwritten : List (Turn SixCall)
-overwritten =
-    turn 0 (clearDepth (Within (column 0 9)) one32)
-    ∷ turn 0 (defineLevel 0 0 1 1 0 (5 ∷ 6 ∷ 7 ∷ 8 ∷ []))
-    ∷ turn 1 (defineLevel 1 0 1 1 0 (9 ∷ 9 ∷ 9 ∷ 9 ∷ []))
-    ∷ turn 0 (draw (leftHalf 0 zero32))
-    ∷ []
-
--- all premises but the rule on bytes hold, and the claim does not
-abbrev pub BytesNeeded : Type 0
-BytesNeeded = Disjoint (meaning drawing scissorOf) (InBox drawing scissorOf) (InWindow window) badTarget start
-    × Inside (meaning drawing scissorOf) (InBox drawing scissorOf) (InWindow window) badTarget overwritten start
-    × TexturesApart (meaning drawing scissorOf) (InBox drawing scissorOf) (InWindow window) badTarget overwritten start
-    × (GuestClaim drawing scissorOf window overwritten start → ⊥)

@@ -98,7 +98,7 @@ module _ (w : Guest → ScissorBox) (ms : List (Turn (Call ⊥))) where
   abbrev pub Refuted : Type 0
   Refuted = GuestClaim noDrawing noScissor w ms start → ⊥
 
--- All premises but one hold, and the claim does not. The rule on bytes has no such list of these five kinds of call: only a draw reads bytes.
+-- All premises but one hold, and the claim does not. The rule on bytes has no such list of these five kinds of call: only a draw reads bytes (worked_draws).
 abbrev pub WindowsNeeded : Type 0
 WindowsNeeded = BoxesInside oneWindow overdrawn × Textures oneWindow overdrawn × Bytes oneWindow overdrawn × Refuted oneWindow overdrawn
 
