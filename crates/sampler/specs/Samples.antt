@@ -11,7 +11,7 @@ use Rattle.levels.specs.declared.MipLevel.{MipLevel}
 use Rattle.levels.specs.declared.Texture.{Texture}
 use Rattle.levels.specs.declared.Filter.{Filter}
 use Rattle.levels.specs.declared.Filter.the-variants.{Nearest, Linear}
-use Rattle.levels.specs.Levels.{absent, levelOf, complete, validOf}
+use Rattle.levels.specs.Levels.{absent, levelAt, levelOf, complete, validOf}
 use Rattle.levels.specs.declared.Wrap.{Wrap}
 use Rattle.coords.specs.Coords.{wrapCoord, firstOf, secondOf, weightOf}
 use Rattle.mipmaps.specs.declared.Chosen.{Chosen}
@@ -33,6 +33,19 @@ taken Linear = 16
 abbrev pub countOf : Chosen → ℕ
 countOf (One k f) = taken f
 countOf (Two k f part) = taken f + taken f
+
+-- the levels that a sample reads, from the first to the last, and by which filter
+abbrev pub firstLevel : Chosen → ℕ
+firstLevel (One k f) = k
+firstLevel (Two k f part) = k
+
+abbrev pub lastLevel : Chosen → ℕ
+lastLevel (One k f) = k
+lastLevel (Two k f part) = k + 1
+
+abbrev pub levelFilter : Chosen → Filter
+levelFilter (One k f) = f
+levelFilter (Two k f part) = f
 
 -- texture.rs, sample_filter: the texel of a level from the bytes at `filterAddresses`
 unfoldable pub filterTexel : Filter → MipLevel → Float → Float → List ℕ → Texel
@@ -119,3 +132,8 @@ sidesAt l k rest = getD l k absent .width ∷ getD l k absent .height ∷ rest
 unfoldable pub sidesOf : List MipLevel → List ℕ
 sidesOf l =
     sidesAt l 0 (sidesAt l 1 (sidesAt l 2 (sidesAt l 3 (sidesAt l 4 (sidesAt l 5 (sidesAt l 6 (sidesAt l 7 (sidesAt l 8 (sidesAt l 9 (sidesAt l 10 []))))))))))
+
+-- a level's texel from what is lent
+unfoldable pub lentTexel : List ℕ → List ℕ → List ℕ → Wrap → Wrap → ℕ → Filter → Float → Float → Texel
+lentTexel store places sides ws wt k f s t =
+    let m = levelAt (getD places k 0) (getD sides (k * 2) 0) (getD sides (k * 2 + 1) 0) in filterTexel f m s t (bytesAt store (filterAddresses f m ws wt s t))

@@ -16,7 +16,7 @@ ghost use Rattle.mipmaps.specs.Mipmaps.{Within};
 ghost use Rattle.detail.specs.Steps.{Thresholds};
 ghost use Rattle.sampler.specs.Texels.{texelAt, white, linearByte, linearTexel, partOf, mixByte, mixTexel};
 ghost use Rattle.sampler.specs.Addresses.{indexOf, filterAddresses, chosenAddresses, bytesAt};
-ghost use Rattle.sampler.specs.Samples.{filterTexel, chosenTexel, placesOf, sidesOf, sampleOf, sampledOf, outcomeOf, sampleCall, Image, Readable, nearestIn, linearIn};
+ghost use Rattle.sampler.specs.Samples.{filterTexel, chosenTexel, firstLevel, lastLevel, levelFilter, levelTexel, placesOf, sidesOf, sampleOf, sampledOf, outcomeOf, sampleCall, Image, Readable, nearestIn, linearIn};
 
 // Red, green, blue and alpha.
 pub struct Texel {
@@ -218,6 +218,47 @@ fn level_at(places: &[usize; 11], sides: &[u32; 22], k: usize) -> MipLevel
     }
 }
 
+fn first_level(chosen: Chosen) -> usize
+    ensures { λ r. ⌜ r ≡ firstLevel chosen ⌝ }
+{
+    match chosen {
+        Chosen::One { level, filter: _ } => level,
+        Chosen::Two {
+            level,
+            filter: _,
+            part: _,
+        } => level,
+    }
+}
+
+fn last_level(chosen: Chosen) -> usize
+    requires { ⌜ Within 10 chosen ⌝ }
+    ensures { λ r. ⌜ r ≡ lastLevel chosen ⌝ }
+{
+    match chosen {
+        Chosen::One { level, filter: _ } => level,
+        Chosen::Two {
+            level,
+            filter: _,
+            part: _,
+        } => level + 1,
+    }
+}
+
+fn level_filter(chosen: Chosen) -> Filter
+    ensures { λ r. ⌜ r ≡ levelFilter chosen ⌝ }
+{
+    match chosen {
+        Chosen::One { level: _, filter } => filter,
+        Chosen::Two {
+            level: _,
+            filter,
+            part: _,
+        } => filter,
+    }
+}
+
+// One loop over the levels, so that the filters stand there once and need no call.
 fn sample_chosen(
     store: &[u8],
     places: &[usize; 11],
@@ -231,24 +272,30 @@ fn sample_chosen(
     requires { ⌜ now places ≡ placesOf (texture .levels) ⌝ ∗ ⌜ now sides ≡ sidesOf (texture .levels) ⌝ }
     ensures { λ r. ⌜ r ≡ chosenTexel texture chosen s t (bytesAt (now (store .entry)) (chosenAddresses texture chosen s t)) ⌝ }
 {
+    let level = first_level(chosen);
+    let last = last_level(chosen);
+    let filter = level_filter(chosen);
     let wrap_s = texture.wrap_s;
     let wrap_t = texture.wrap_t;
+    let mut lower = white_texel();
+    let mut upper = white_texel();
+    let mut k = level;
+    while k <= last {
+        lower = upper;
+        let m = level_at(places, sides, k);
+        upper = sample_filter(store, m, wrap_s, wrap_t, filter, s, t);
+        k += 1;
+    }
     match chosen {
-        Chosen::One { level, filter } => {
-            let m = level_at(places, sides, level);
-            sample_filter(store, m, wrap_s, wrap_t, filter, s, t)
-        }
+        Chosen::One {
+            level: _,
+            filter: _,
+        } => upper,
         Chosen::Two {
-            level,
-            filter,
+            level: _,
+            filter: _,
             part,
-        } => {
-            let m = level_at(places, sides, level);
-            let a = sample_filter(store, m, wrap_s, wrap_t, filter, s, t);
-            let next = level_at(places, sides, level + 1);
-            let b = sample_filter(store, next, wrap_s, wrap_t, filter, s, t);
-            mix_texels(part, a, b)
-        }
+        } => mix_texels(part, lower, upper),
     }
 }
 

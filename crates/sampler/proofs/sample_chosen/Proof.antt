@@ -1,81 +1,79 @@
-use borrow.Author.Needs.{needs}
-use Prim.Native.Nat.{ℕ}
-use denote.Ref.{now}
-use mathlib.Core.Path.{_∙_, subst}
+use Prim.Native.Nat.{ℕ, _+_, _-_, _≤_}
+use mathlib.Core.Path.{_≡_, refl, ap, subst, _∙_}
 use native.Mathlib.Omega.{arith}
+use denote.Ref.{now}
+use borrow.Author.Needs.{needs}
 use Rattle.mipmaps.specs.declared.Chosen.{Chosen}
 use Rattle.mipmaps.specs.Mipmaps.{Within}
-use Rattle.sampler.proofs.Records.{level-in, lent-ready, lent-sample}
-use Rattle.sampler.proofs.Chosen.{chosen-one, chosen-pair}
+use Rattle.sampler.specs.Samples.{lentTexel}
+use Rattle.sampler.proofs.Records.{level-in, lent-ready}
+use Rattle.sampler.proofs.Lent.{reach, within-ten, turned, one-level, two-levels}
 use Rattle.sampler.proofs.sample_chosen.Statement.{statement}
 use Rattle.sampler.proofs.sample_chosen.Tie as tie
-use Rattle.sampler.proofs.sample_chosen.Reads as reads
-use Rattle.sampler.proofs.sample_chosen.Lts as lts
-use Rattle.sampler.proofs.level_at.Reads as level-at-reads
-use Rattle.sampler.proofs.mix_texels.Reads as mix-texels-reads
-use Rattle.sampler.proofs.sample_filter.Reads as sample-filter-reads
 
--- src/lib.rt:237:23
-enum-known-chosen : tie.Need-enum-known-chosen
-enum-known-chosen c = search needs
+abbrev Inv-loop : tie.InvT-loop
+Inv-loop store places sides chosen s t level last filter wrap-s wrap-t lower₀ upper₀ k₀ lower upper k =
+    (level ≤ k) × (k ≤ last + 1) × ((j : ℕ) → k ≡ j + 1 → level ≤ j → upper ≡ lentTexel store places sides wrap-s wrap-t j filter s t)
+    × ((j : ℕ) → k ≡ j + 2 → level ≤ j → lower ≡ lentTexel store places sides wrap-s wrap-t j filter s t)
 
--- src/lib.rt:238:17
-level-at-requires : tie.Need-level-at-requires
-level-at-requires c κs = level-in _ _ (c .before .before .before .before .pre .0) _ (subst (λ (z : Chosen). Within (c .before .before .before .before .args .texture .«max_mipmap_level») z) (c .before .chosen .given .1) (c .before .before .before .before .pre .1 .0))
+abbrev μ-loop : tie.MeasureT-loop
+μ-loop store places sides chosen s t level last filter wrap-s wrap-t lower₀ upper₀ k₀ lower upper k = last + 1 - k
 
--- src/lib.rt:239:13
-sample-filter-requires : tie.Need-sample-filter-requires
-sample-filter-requires c κs = lent-ready _ _ (c .before .before .before .before .before .pre .0) _ (subst (λ (z : Chosen). Within (c .before .before .before .before .before .args .texture .«max_mipmap_level») z) (c .before .before .chosen .given .1) (c .before .before .before .before .before .pre .1 .0)) _ _ (c .before .before .before .before .before .pre .1 .1 .0) (c .before .before .before .before .before .pre .1 .1 .1) _ (c .level-at .ensures)
+last-level-requires : tie.Need-last-level-requires Inv-loop μ-loop
+last-level-requires c κs = within-ten (c .before .before .args .texture .«max_mipmap_level») (c .before .before .args .chosen) (c .before .before .pre .1 .0) (c .before .before .pre .0 .few)
 
--- src/lib.rt:242:13
-enum-known-chosen-2 : tie.Need-enum-known-chosen-2
-enum-known-chosen-2 c = search needs
+loop-holds : tie.Need-loop-holds Inv-loop μ-loop
+loop-holds c =
+    let m = reach (c .before .before .before .before .before .before .args .texture .«max_mipmap_level») (c .before .before .before .before .before .before .args .chosen) (c .before .before .before .before .before .before .pre .1 .0) _ _ (c .before .before .before .before .first-level .ensures) (c .before .before .before .last-level .ensures) in
+    (omega arith, omega (arith, m .0), λ j e h. absurd (omega arith), λ j e h. absurd (omega arith))
 
--- src/lib.rt:246:17
-level-at-requires-2 : tie.Need-level-at-requires-2
-level-at-requires-2 c κs = let w = subst (λ (z : Chosen). Within (c .before .before .before .before .args .texture .«max_mipmap_level») z) (c .before .chosen2 .given .1) (c .before .before .before .before .pre .1 .0) in level-in _ _ (c .before .before .before .before .pre .0) _ (omega arith)
+level-at-requires : tie.Need-level-at-requires Inv-loop μ-loop
+level-at-requires c κs =
+    let m = reach (c .before .before .before .before .before .before .before .before .args .texture .«max_mipmap_level») (c .before .before .before .before .before .before .before .before .args .chosen) (c .before .before .before .before .before .before .before .before .pre .1 .0) _ _ (c .before .before .before .before .before .before .first-level .ensures) (c .before .before .before .before .before .last-level .ensures) in
+    level-in _ _ (c .before .before .before .before .before .before .before .before .pre .0) _ (omega (arith, m .1, c .loop-test .taken))
 
--- src/lib.rt:247:17
-sample-filter-requires-2 : tie.Need-sample-filter-requires-2
-sample-filter-requires-2 c κs = let w = subst (λ (z : Chosen). Within (c .before .before .before .before .before .args .texture .«max_mipmap_level») z) (c .before .before .chosen2 .given .1) (c .before .before .before .before .before .pre .1 .0) in lent-ready _ _ (c .before .before .before .before .before .pre .0) _ (omega arith) _ _ (c .before .before .before .before .before .pre .1 .1 .0) (c .before .before .before .before .before .pre .1 .1 .1) _ (c .level-at2 .ensures)
+sample-filter-requires : tie.Need-sample-filter-requires Inv-loop μ-loop
+sample-filter-requires c κs =
+    let m = reach (c .before .before .before .before .before .before .before .before .before .args .texture .«max_mipmap_level») (c .before .before .before .before .before .before .before .before .before .args .chosen) (c .before .before .before .before .before .before .before .before .before .pre .1 .0) _ _ (c .before .before .before .before .before .before .before .first-level .ensures) (c .before .before .before .before .before .before .last-level .ensures) in
+    lent-ready _ _ (c .before .before .before .before .before .before .before .before .before .pre .0) _ (omega (arith, m .1, c .before .loop-test .taken)) _ _ (c .before .before .before .before .before .before .before .before .before .pre .1 .1 .0) (c .before .before .before .before .before .before .before .before .before .pre .1 .1 .1) _ (c .level-at .ensures)
 
--- src/lib.rt:248:48
-add-level-at : tie.Need-add-level-at
-add-level-at c = let w = subst (λ (z : Chosen). Within (c .before .before .before .before .before .before .args .texture .«max_mipmap_level») z) (c .before .before .before .chosen2 .given .1) (c .before .before .before .before .before .before .pre .1 .0) in record { fits = omega (arith, c .before .before .before .before .before .before .pre .0 .few) }
+add-k : tie.Need-add-k Inv-loop μ-loop
+add-k c =
+    let m = reach (c .before .before .before .before .before .before .before .before .before .before .args .texture .«max_mipmap_level») (c .before .before .before .before .before .before .before .before .before .before .args .chosen) (c .before .before .before .before .before .before .before .before .before .before .pre .1 .0) _ _ (c .before .before .before .before .before .before .before .before .first-level .ensures) (c .before .before .before .before .before .before .before .last-level .ensures) in
+    record { fits = omega (arith, m .1, c .before .before .before .before .before .before .before .before .before .before .pre .0 .few, c .before .before .loop-test .taken) }
 
--- src/lib.rt:248:17
-level-at-requires-3 : tie.Need-level-at-requires-3
-level-at-requires-3 c κs = let w = subst (λ (z : Chosen). Within (c .before .before .before .before .before .before .args .texture .«max_mipmap_level») z) (c .before .before .before .chosen2 .given .1) (c .before .before .before .before .before .before .pre .1 .0) in level-in _ _ (c .before .before .before .before .before .before .pre .0) _ (w .0)
+loop-less : tie.Need-loop-less Inv-loop μ-loop
+loop-less c = omega (arith, c .before .before .loop-test .taken)
 
--- src/lib.rt:249:17
-sample-filter-requires-3 : tie.Need-sample-filter-requires-3
-sample-filter-requires-3 c κs = let w = subst (λ (z : Chosen). Within (c .before .before .before .before .before .before .before .args .texture .«max_mipmap_level») z) (c .before .before .before .before .chosen2 .given .1) (c .before .before .before .before .before .before .before .pre .1 .0) in lent-ready _ _ (c .before .before .before .before .before .before .before .pre .0) _ (w .0) _ _ (c .before .before .before .before .before .before .before .pre .1 .1 .0) (c .before .before .before .before .before .before .before .pre .1 .1 .1) _ (c .level-at3 .ensures)
+loop-again : tie.Need-loop-again Inv-loop μ-loop
+loop-again c =
+    let i = c .before .before .before .loop .inv in
+    (omega (arith, i .0), omega (arith, c .before .before .loop-test .taken), λ j e h. turned _ _ _ _ _ _ _ _ _ _ (c .before .level-at .ensures) _ (c .sample-filter .ensures) j e, λ j e h. i .2 j (omega arith) h)
 
--- src/lib.rt:250:13
-mix-texels-requires : tie.Need-mix-texels-requires
-mix-texels-requires c κs = let w = subst (λ (z : Chosen). Within (c .before .before .before .before .before .before .before .before .args .texture .«max_mipmap_level») z) (c .before .before .before .before .before .chosen2 .given .1) (c .before .before .before .before .before .before .before .before .pre .1 .0) in w .1
+mix-texels-requires : tie.Need-mix-texels-requires Inv-loop μ-loop
+mix-texels-requires c κs = let w = subst (λ (z : Chosen). Within (c .before .before .before .before .before .before .before .before .before .before .before .args .texture .«max_mipmap_level») z) (c .before .chosen .given .1) (c .before .before .before .before .before .before .before .before .before .before .before .pre .1 .0) in w .1
 
--- src/lib.rt:221:1
-returns : tie.Need-returns
-returns c = lent-sample (now (c .before .before .before .before .before .before .args .store)) (c .before .before .before .before .before .before .args .texture) (c .before .before .before .before .before .before .pre .0) _ (subst (λ (z : Chosen). Within (c .before .before .before .before .before .before .args .texture .«max_mipmap_level») z) (c .before .before .before .chosen .given .1) (c .before .before .before .before .before .before .pre .1 .0)) _ _ (c .before .before .before .before .before .before .pre .1 .1 .0) (c .before .before .before .before .before .before .pre .1 .1 .1) _ (c .before .level-at .ensures) _ _ _ _ (c .sample-filter .ensures) ∙ chosen-one _ _ _ _ _ _ _ (c .before .before .before .chosen .given .1)
+returns : tie.Need-returns Inv-loop μ-loop
+returns c =
+    let a = c .before .before .before .before .before .before .before .before .before .before .args in
+    let i = c .before .before .before .loop .inv in
+    let m = reach (a .texture .«max_mipmap_level») (a .chosen) (c .before .before .before .before .before .before .before .before .before .before .pre .1 .0) _ _ (c .before .before .before .before .before .before .before .before .first-level .ensures) (c .before .before .before .before .before .before .before .last-level .ensures) in
+    one-level (now (a .store)) (a .texture) (c .before .before .before .before .before .before .before .before .before .before .pre .0) _ _ (c .before .before .before .before .before .before .before .before .before .before .pre .1 .1 .0) (c .before .before .before .before .before .before .before .before .before .before .pre .1 .1 .1) _ _ _ (c .before .before .before .before .before .before .before .before .before .before .pre .1 .0) _ _ _ (c .before .before .before .before .before .before .before .before .first-level .ensures) (c .before .before .before .before .before .before .before .last-level .ensures) (c .before .before .before .before .before .before .level-filter .ensures) _ _ (c .enum-told .given .1) _
+    (i .2 (c .before .before .before .before .before .before .before .last-level .result) (omega (arith, i .1, c .before .before .loop-test .left)) (m .0))
 
--- src/lib.rt:221:1
-returns-2 : tie.Need-returns-2
-returns-2 c = let w = subst (λ (z : Chosen). Within (c .before .before .before .before .before .before .before .before .before .args .texture .«max_mipmap_level») z) (c .before .before .before .before .before .before .chosen2 .given .1) (c .before .before .before .before .before .before .before .before .before .pre .1 .0) in c .mix-texels .ensures ∙ chosen-pair _ _ _ _ _ _ _ _ (c .before .before .before .before .before .before .chosen2 .given .1) _ _ (lent-sample (now (c .before .before .before .before .before .before .before .before .before .args .store)) (c .before .before .before .before .before .before .before .before .before .args .texture) (c .before .before .before .before .before .before .before .before .before .pre .0) _ (omega arith) _ _ (c .before .before .before .before .before .before .before .before .before .pre .1 .1 .0) (c .before .before .before .before .before .before .before .before .before .pre .1 .1 .1) _ (c .before .before .before .before .level-at2 .ensures) _ _ _ _ (c .before .before .before .sample-filter2 .ensures)) (lent-sample (now (c .before .before .before .before .before .before .before .before .before .args .store)) (c .before .before .before .before .before .before .before .before .before .args .texture) (c .before .before .before .before .before .before .before .before .before .pre .0) _ (w .0) _ _ (c .before .before .before .before .before .before .before .before .before .pre .1 .1 .0) (c .before .before .before .before .before .before .before .before .before .pre .1 .1 .1) _ (c .before .before .level-at3 .ensures) _ _ _ _ (c .before .sample-filter3 .ensures))
+returns-2 : tie.Need-returns-2 Inv-loop μ-loop
+returns-2 c =
+    let a = c .before .before .before .before .before .before .before .before .before .before .before .before .args in
+    let i = c .before .before .before .before .before .loop .inv in
+    let m = reach (a .texture .«max_mipmap_level») (a .chosen) (c .before .before .before .before .before .before .before .before .before .before .before .before .pre .1 .0) _ _ (c .before .before .before .before .before .before .before .before .before .before .first-level .ensures) (c .before .before .before .before .before .before .before .before .before .last-level .ensures) in
+    c .mix-texels .ensures
+    ∙ two-levels (now (a .store)) (a .texture) (c .before .before .before .before .before .before .before .before .before .before .before .before .pre .0) _ _ (c .before .before .before .before .before .before .before .before .before .before .before .before .pre .1 .1 .0) (c .before .before .before .before .before .before .before .before .before .before .before .before .pre .1 .1 .1) _ _ _ (c .before .before .before .before .before .before .before .before .before .before .before .before .pre .1 .0) _ _ _ (c .before .before .before .before .before .before .before .before .before .before .first-level .ensures) (c .before .before .before .before .before .before .before .before .before .last-level .ensures) (c .before .before .before .before .before .before .before .before .level-filter .ensures) _ _ _ (c .before .before .chosen .given .1) _ _
+    (λ e. i .3 (c .before .before .before .before .before .before .before .before .before .before .first-level .result) (omega (arith, i .1, c .before .before .before .before .loop-test .left)) (omega arith))
+    (i .2 (c .before .before .before .before .before .before .before .before .before .last-level .result) (omega (arith, i .1, c .before .before .before .before .loop-test .left)) (m .0))
 
 pub sample-chosen-spec : {M : Type 1} → statement M
 sample-chosen-spec =
     tie.close
     (tie.spec
-    enum-known-chosen
-    level-at-requires
-    sample-filter-requires
-    enum-known-chosen-2
-    level-at-requires-2
-    sample-filter-requires-2
-    add-level-at
-    level-at-requires-3
-    sample-filter-requires-3
-    mix-texels-requires
-    returns
-    returns-2)
+    Inv-loop μ-loop (λ c κs. search needs) last-level-requires (λ c κs. search needs) (λ c κs. search needs) (λ c κs. search needs) loop-holds
+    level-at-requires sample-filter-requires add-k loop-less loop-again (λ c. search needs) (λ c. search needs) mix-texels-requires returns returns-2)
