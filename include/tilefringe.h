@@ -4,12 +4,18 @@
  *    0  done
  *    1  target side above 4,096, or lengths of colours or depths that do not fit its sides
  *    2  scissor number outside -8,192 to 8,192
+ *    3  viewport x or y outside -8,192 to 8,192, or width or height above 4,096
  *    4  a float that is not finite, or above 1,048,576 in magnitude
+ *    5  a vertex's number that is not finite, or above 1,048,576 in magnitude
+ *    6  more than four stages, a unit above 3, or an environment colour that fails the rule of 4
+ *    7  fog on with an exponential curve
+ *    8  a texture record that is not valid
  *    9  image side above 1,024
  *   11  too few bytes
  *   14  unknown format or type
  *   15  output not 4 x width x height bytes
  *   16  unknown code
+ *  255  a layout of another length, or with an unknown code: no call of document 01
  *
  * A slice is a pointer and a length; a pointer with length 0 may be any that is not used otherwise.
  */
@@ -54,6 +60,17 @@ uint32_t tf_to_rgb565(const uint8_t *colors, size_t colors_len, size_t depths_le
 /* Whether the code of a comparison, or of a blend factor, is known: 0 or 16. */
 uint32_t tf_compare_func(uint32_t code);
 uint32_t tf_blend_factor(uint32_t code);
+
+/*
+ * Draws one triangle. units: the records of the units 0 to 3 (976 bytes); settings 144 bytes; stages 24 bytes each; vertices 204 bytes
+ * (docs/INTERFACE.md, Draw). Answers the count of pixel writes, or a refusal's number times 2^32: 1, 2, 3, 4, 7, 6, 8 or 5, in the order of
+ * the checks, or 255 for a wrong layout, before them. The colours and
+ * the depths overlap none of the other slices.
+ */
+uint64_t tf_draw_triangle(uint8_t *colors, size_t colors_len, float *depths, size_t depths_len, uint32_t width,
+                          uint32_t height, const uint8_t *store, size_t store_len, const uint8_t *units,
+                          size_t units_len, const uint8_t *settings, size_t settings_len, const uint8_t *stages,
+                          size_t stages_len, const uint8_t *vertices, size_t vertices_len);
 
 #ifdef __cplusplus
 }

@@ -1,3 +1,4 @@
 // The C interface: docs/INTERFACE.md. Answers are the numbers of document 01; 0 is done.
 mod decode;
+mod draw_calls;
 mod target;
