@@ -31,7 +31,7 @@ fn wide(b: u8) -> u32
 }
 
 // Four bytes, the low one first.
-fn word_at(b: &[u8], at: usize) -> u32
+pub fn word_at(b: &[u8], at: usize) -> u32
     requires { ⌜ at + 4 ≤ length (now b) ⌝ }
     ensures { λ r. ⌜ r ≡ word (now (b .entry)) at ⌝ }
 {

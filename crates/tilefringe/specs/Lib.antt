@@ -1,3 +1,4 @@
 pub mod Target
 pub mod TextureCalls
 pub mod SampleCalls
+pub mod DrawCalls

@@ -1,0 +1,24 @@
+use mathlib.Core.Path.{refl, sym, ap, _∙_}
+use Rattle.lists.proofs.Choice.{yes, no, stay, leave}
+use Rattle.draw_layouts.specs.Settings.{codesKnown}
+use borrow.Author.Needs.{needs}
+use Rattle.draw_layouts.proofs.are_codes_known.Statement.{statement}
+use Rattle.draw_layouts.proofs.are_codes_known.Tie as tie
+
+are-tests-known-requires : tie.Need-are-tests-known-requires
+are-tests-known-requires c κs = search needs
+
+returns : tie.Need-returns
+unfolding codesKnown
+returns c = leave _ (c .before .are-tests-known .ensures) (c .if1 .taken) refl
+
+are-modes-known-requires : tie.Need-are-modes-known-requires
+are-modes-known-requires c κs = search needs
+
+returns-2 : tie.Need-returns-2
+unfolding codesKnown
+returns-2 c = stay _ (c .before .before .are-tests-known .ensures) (c .before .if1 .left) (c .are-modes-known .ensures)
+
+pub are-codes-known-spec : {M : Type 1} → statement M
+are-codes-known-spec =
+    tie.close (tie.spec are-tests-known-requires returns are-modes-known-requires returns-2)

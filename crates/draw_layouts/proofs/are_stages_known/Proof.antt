@@ -1,0 +1,21 @@
+use mathlib.Core.Path.{refl, sym, ap, _∙_}
+use Rattle.lists.proofs.Choice.{yes, no, stay, leave}
+use borrow.Author.Tests.{eq-eqb, ne-eqb, lt-ltb, le-ltb}
+use Rattle.draw_layouts.specs.Stages.{stagesKnown}
+use borrow.Author.Needs.{needs}
+use Rattle.draw_layouts.proofs.are_stages_known.Statement.{statement}
+use Rattle.draw_layouts.proofs.are_stages_known.Tie as tie
+
+are-first-known-requires : tie.Need-are-first-known-requires
+are-first-known-requires c κs = search needs
+
+returns : tie.Need-returns
+unfolding stagesKnown
+returns c = yes _ (eq-eqb _ _ (c .before .if1 .taken)) (c .are-first-known .ensures)
+
+returns-2 : tie.Need-returns-2
+unfolding stagesKnown
+returns-2 c = no _ (ne-eqb _ _ (c .if1 .left)) refl
+
+pub are-stages-known-spec : {M : Type 1} → statement M
+are-stages-known-spec = tie.close (tie.spec are-first-known-requires returns returns-2)

@@ -1,0 +1,28 @@
+use mathlib.Core.Path.{refl, sym, ap, _∙_}
+use Rattle.lists.proofs.Choice.{yes, no, stay, leave}
+use borrow.Author.Tests.{eq-eqb, ne-eqb, lt-ltb, le-ltb}
+use Rattle.draw_layouts.specs.Settings.{readSettings}
+use borrow.Author.Needs.{needs}
+use Rattle.draw_layouts.proofs.read_settings.Statement.{statement}
+use Rattle.draw_layouts.proofs.read_settings.Tie as tie
+
+new-requires : tie.Need-new-requires
+new-requires c κs = search needs
+
+returns : tie.Need-returns
+unfolding readSettings
+returns c = no _ (ne-eqb _ _ (c .before .if1 .taken)) (rw (c .new .ensures))
+
+are-codes-known-requires : tie.Need-are-codes-known-requires
+are-codes-known-requires c κs = search needs
+
+state-at-requires : tie.Need-state-at-requires
+state-at-requires c κs = search needs
+
+returns-2 : tie.Need-returns-2
+unfolding readSettings
+returns-2 c = yes _ (eq-eqb _ _ (c .before .before .if1 .left)) (rw (c .before .are-codes-known .ensures, c .state-at .ensures))
+
+pub read-settings-spec : {M : Type 1} → statement M
+read-settings-spec =
+    tie.close (tie.spec new-requires returns are-codes-known-requires state-at-requires returns-2)

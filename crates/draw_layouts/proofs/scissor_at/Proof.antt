@@ -1,0 +1,46 @@
+use mathlib.Core.Path.{refl, sym, ap, _∙_}
+use Rattle.lists.proofs.Choice.{yes, no, stay, leave}
+use borrow.Author.Tests.{eq-eqb, ne-eqb, lt-ltb, le-ltb}
+use Prim.Native.Nat.{ℕ, _+_, _-_}
+use Rattle.draw_layouts.proofs.Signs.{low, minus-fits, high, back, back-at}
+use lib.Dec.{eqb}
+use Rattle.settings.specs.declared.Scissor.the-variants.{Within}
+use Rattle.draw_layouts.specs.Settings.{scissorOf}
+use borrow.Author.Needs.{needs}
+use Rattle.draw_layouts.proofs.scissor_at.Statement.{statement}
+use Rattle.draw_layouts.proofs.scissor_at.Tie as tie
+
+word-at-requires : tie.Need-word-at-requires
+word-at-requires c κs = search needs
+
+returns : tie.Need-returns
+unfolding scissorOf
+returns c = yes _ (ap (λ (v : ℕ). eqb v 0) (sym (c .before .word-at .ensures)) ∙ eq-eqb _ _ (c .if1 .taken)) refl
+
+signed-at-requires : tie.Need-signed-at-requires
+signed-at-requires c κs = search needs
+
+signed-at-requires-2 : tie.Need-signed-at-requires-2
+signed-at-requires-2 c κs = search needs
+
+signed-at-requires-3 : tie.Need-signed-at-requires-3
+signed-at-requires-3 c κs = search needs
+
+signed-at-requires-4 : tie.Need-signed-at-requires-4
+signed-at-requires-4 c κs = search needs
+
+returns-2 : tie.Need-returns-2
+unfolding scissorOf
+returns-2 c = no _ (ap (λ (v : ℕ). eqb v 0) (sym (c .before .before .before .before .before .word-at .ensures)) ∙ ne-eqb _ _ (c .before .before .before .before .if1 .left)) (ap Within (λ t. record { x = back-at _ _ _ (c .before .before .before .signed-at .ensures) t; y = back-at _ _ _ (c .before .before .signed-at2 .ensures) t; width = back-at _ _ _ (c .before .signed-at3 .ensures) t; height = back-at _ _ _ (c .signed-at4 .ensures) t }))
+
+pub scissor-at-spec : {M : Type 1} → statement M
+scissor-at-spec =
+    tie.close
+    (tie.spec
+    word-at-requires
+    returns
+    signed-at-requires
+    signed-at-requires-2
+    signed-at-requires-3
+    signed-at-requires-4
+    returns-2)

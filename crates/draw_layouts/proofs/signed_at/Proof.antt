@@ -1,0 +1,19 @@
+use mathlib.Core.Path.{refl, sym, ap, _∙_}
+use Rattle.draw_layouts.proofs.Signs.{low, minus-fits, high, back, back-at}
+use Rattle.draw_layouts.specs.Numbers.{signedOf, signedAt}
+use borrow.Author.Needs.{needs}
+use Rattle.draw_layouts.proofs.signed_at.Statement.{statement}
+use Rattle.draw_layouts.proofs.signed_at.Tie as tie
+
+word-at-requires : tie.Need-word-at-requires
+word-at-requires c κs = search needs
+
+signed-requires : tie.Need-signed-requires
+signed-requires c κs = search needs
+
+returns : tie.Need-returns
+unfolding signedAt
+returns c = back _ _ (c .signed .ensures ∙ ap signedOf (c .before .word-at .ensures))
+
+pub signed-at-spec : {M : Type 1} → statement M
+signed-at-spec = tie.close (tie.spec word-at-requires signed-requires returns)
