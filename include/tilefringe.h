@@ -6,7 +6,9 @@
  *    2  scissor number outside -8,192 to 8,192
  *    3  viewport x or y outside -8,192 to 8,192, or width or height above 4,096
  *    4  a float that is not finite, or above 1,048,576 in magnitude
-<<<<<<< HEAD
+ *    5  a vertex's number that is not finite, or above 1,048,576 in magnitude
+ *    6  more than four stages, a unit above 3, or an environment colour that fails the rule of 4
+ *    7  fog on with an exponential curve
  *    8  texture record with a level past the store, levels that overlap, a side above 1,024, or a wrong top level
  *    9  image side above 1,024, or level above 10
  *   10  place past the store, or over a level of the same texture that stays
@@ -16,19 +18,7 @@
  *   14  unknown format or type
  *   15  output not 4 x width x height bytes
  *   16  unknown code
- *  255  no call of document 01: a record's layout of another length, or with an unknown code
-=======
- *    5  a vertex's number that is not finite, or above 1,048,576 in magnitude
- *    6  more than four stages, a unit above 3, or an environment colour that fails the rule of 4
- *    7  fog on with an exponential curve
- *    8  a texture record that is not valid
- *    9  image side above 1,024
- *   11  too few bytes
- *   14  unknown format or type
- *   15  output not 4 x width x height bytes
- *   16  unknown code
  *  255  a layout of another length, or with an unknown code: no call of document 01
->>>>>>> 5426f5ee7a31bf765d7851d6729051f75ce84389
  *
  * A slice is a pointer and a length; a pointer with length 0 may be any that is not used otherwise.
  */
@@ -79,7 +69,6 @@ uint32_t tf_to_rgb565(const uint8_t *colors, size_t colors_len, size_t depths_le
 uint32_t tf_compare_func(uint32_t code);
 uint32_t tf_blend_factor(uint32_t code);
 
-<<<<<<< HEAD
 /* The bytes of a texture record's layout: docs/INTERFACE.md. */
 #define TF_TEXTURE_RECORD 244
 
@@ -97,18 +86,17 @@ uint32_t tf_patch_level(const uint8_t *record, size_t record_len, uint8_t *store
 
 /* Sets a filter or a wrap, or nothing for a code without effect. Answers 0, 16 or 255. */
 uint32_t tf_set_parameter(uint8_t *record, size_t record_len, uint32_t pname, uint32_t value);
-=======
+
 /*
  * Draws one triangle. units: the records of the units 0 to 3 (976 bytes); settings 144 bytes; stages 24 bytes each; vertices 204 bytes
  * (docs/INTERFACE.md, Draw). Answers the count of pixel writes, or a refusal's number times 2^32: 1, 2, 3, 4, 7, 6, 8 or 5, in the order of
- * the checks, or 255 for a wrong layout, before them. The colours and
- * the depths overlap none of the other slices.
+ * the checks, or 255 for a wrong layout, before them. The colours and the
+ * depths overlap none of the other slices.
  */
 uint64_t tf_draw_triangle(uint8_t *colors, size_t colors_len, float *depths, size_t depths_len, uint32_t width,
                           uint32_t height, const uint8_t *store, size_t store_len, const uint8_t *units,
                           size_t units_len, const uint8_t *settings, size_t settings_len, const uint8_t *stages,
                           size_t stages_len, const uint8_t *vertices, size_t vertices_len);
->>>>>>> 5426f5ee7a31bf765d7851d6729051f75ce84389
 
 #ifdef __cplusplus
 }
