@@ -17,4 +17,5 @@ groups! {
     target,
     sampling,
     texels,
+    draw,
 }

@@ -16,4 +16,5 @@ parts! {
     target,
     sampling,
     texels,
+    draw,
 }
