@@ -18,4 +18,5 @@ groups! {
     sampling,
     texels,
     texture,
+    draw,
 }

@@ -1,6 +1,7 @@
 //! The port's exported functions behind safe Rust ones: a file for each module of the Rattle crates `probes` and `tilefringe`.
 //! A slice is passed as a pointer and a length, a `&mut` number as a pointer.
 pub mod clip;
+pub mod draw;
 pub mod floats;
 pub mod settings;
 pub mod target;

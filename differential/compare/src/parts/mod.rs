@@ -17,4 +17,5 @@ parts! {
     sampling,
     texels,
     texture,
+    draw,
 }
