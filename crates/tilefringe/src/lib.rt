@@ -1,6 +1,6 @@
 // The C interface: docs/INTERFACE.md. Answers are the numbers of document 01; 0 is done.
 mod decode;
-mod sample_calls;
 mod draw_calls;
+mod sample_calls;
 mod target;
 mod texture_calls;
