@@ -88,10 +88,9 @@ uint32_t tf_patch_level(const uint8_t *record, size_t record_len, uint8_t *store
 uint32_t tf_set_parameter(uint8_t *record, size_t record_len, uint32_t pname, uint32_t value);
 
 /*
- * Draws one triangle. units: the records of the units 0 to 3 (976 bytes); settings 144 bytes; stages 24 bytes each; vertices 204 bytes
- * (docs/INTERFACE.md, Draw). Answers the count of pixel writes, or a refusal's number times 2^32: 1, 2, 3, 4, 7, 6, 8 or 5, in the order of
- * the checks, or 255 for a wrong layout, before them. The colours and the
- * depths overlap none of the other slices.
+ * Draws one triangle. units: the records of the units 0 to 3, 976 bytes; settings: 144 bytes; stages: 24 bytes each; vertices: 204 bytes
+ * (docs/INTERFACE.md, Draw). Answers the count of pixel writes, or a refusal's number times 2^32: 1, 2, 3, 4, 7, 6, 8 or 5, in the order
+ * of the checks, or 255 for a wrong layout, before them. The colours and the depths overlap no other slice.
  */
 uint64_t tf_draw_triangle(uint8_t *colors, size_t colors_len, float *depths, size_t depths_len, uint32_t width,
                           uint32_t height, const uint8_t *store, size_t store_len, const uint8_t *units,
