@@ -18,4 +18,5 @@ parts! {
     texels,
     texture,
     draw,
+    guests,
 }
