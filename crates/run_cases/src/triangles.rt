@@ -3,7 +3,6 @@ use crate::lines;
 use draw::DrawAnswer;
 use levels::MipLevel;
 use levels::Texture;
-use settings::CompareFunc;
 use settings::PipelineState;
 use settings::Rgba;
 use settings::Scissor;
@@ -37,16 +36,17 @@ fn stage() -> TextureStage {
     }
 }
 
+// The default comparison is Less.
 fn settings(width: i32, height: i32, depth_test: bool) -> PipelineState {
     let mut s = PipelineState::new();
-    s.viewport = Viewport {
+    let viewport = Viewport {
         x: 0,
         y: 0,
         width,
         height,
     };
+    s.viewport = viewport;
     s.depth_test = depth_test;
-    s.depth_func = CompareFunc::Less;
     s
 }
 
