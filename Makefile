@@ -1,11 +1,12 @@
 # make test     the gate: rt ci over every crate, then the comparison with the Rust and the benchmark's own check
 # make lib      the archives of the exported crates, target/staticlib/lib*.a (after rt ci they reuse what it proved)
 # make record   the Rust's answers written anew to crates/replay_*
+# make example  one guest in C, built and run (examples/panel.c)
 
 # The crates that are exported for C and Rust to link.
 EXPORTED = probes tilefringe
 
-.PHONY: test lib differential-check bench-check record
+.PHONY: test lib differential-check bench-check record example
 
 test:
 	@rt version
@@ -26,3 +27,14 @@ bench-check:
 
 record: lib
 	@differential/run --record
+
+ARCHIVE = target/staticlib/libtilefringe.a
+
+$(ARCHIVE):
+	@echo "$@ is not there: run make lib first" >&2; exit 1
+
+example: $(ARCHIVE)
+	@mkdir -p target/example
+	@gcc -Wall -Wextra -Werror -std=c99 -pedantic -Iinclude examples/panel.c $(ARCHIVE) -o target/example/panel
+	@target/example/panel > target/example/panel.out; s=$$?; cat target/example/panel.out; [ $$s = 0 ]
+	@diff examples/panel.out target/example/panel.out && echo "example: as examples/panel.out"
