@@ -107,18 +107,9 @@ pub fn decode_to_rgba(data: &[u8], width: u32, height: u32, format: Format, ty: 
 }
 
 /// The same into memory of the caller's, which must be 4 x width x height bytes: refused by 15 too.
-pub fn decode_to_rgba_into(
-    data: &[u8],
-    width: u32,
-    height: u32,
-    format: Format,
-    ty: TexelType,
-    out: &mut [u8],
-) -> Result<(), Refusal> {
+pub fn decode_to_rgba_into(data: &[u8], width: u32, height: u32, format: Format, ty: TexelType, out: &mut [u8]) -> Result<(), Refusal> {
     // SAFETY: each pointer and length are of one slice; the output overlaps no other.
-    Refusal::check(unsafe {
-        ffi::tf_decode_to_rgba(data.as_ptr(), data.len(), width, height, format.0, ty.0, out.as_mut_ptr(), out.len())
-    })
+    Refusal::check(unsafe { ffi::tf_decode_to_rgba(data.as_ptr(), data.len(), width, height, format.0, ty.0, out.as_mut_ptr(), out.len()) })
 }
 
 /// A compressed or paletted image as RGBA. Refused by 9, 14 or 11; a zero side is an empty image, for any code.
@@ -129,12 +120,7 @@ pub fn decode_to_rgba_into(
 /// let image = decode_compressed_to_rgba(&block, 4, 4, CompressedFormat::RGB_S3TC_DXT1).unwrap();
 /// assert_eq!(image, [170, 0, 85, 255].repeat(16));
 /// ```
-pub fn decode_compressed_to_rgba(
-    data: &[u8],
-    width: u32,
-    height: u32,
-    format: CompressedFormat,
-) -> Result<Vec<u8>, Refusal> {
+pub fn decode_compressed_to_rgba(data: &[u8], width: u32, height: u32, format: CompressedFormat) -> Result<Vec<u8>, Refusal> {
     let mut out = output(width, height);
     decode_compressed_to_rgba_into(data, width, height, format, &mut out)?;
     Ok(out)

@@ -191,8 +191,8 @@ fn each_operation_is_refused_by_its_numbers() {
 #[test]
 fn the_pairs_of_document_01() {
     let settings = Settings { viewport: Rect::new(0, 0, 2, 2), ..Settings::default() };
-    let [a, b, c, d] = [[-1.0, -1.0], [1.0, -1.0], [1.0, 1.0], [-1.0, 1.0]]
-        .map(|[x, y]| Vertex { position: [x, y, 0.0, 1.0], ..Vertex::default() });
+    let [a, b, c, d] =
+        [[-1.0, -1.0], [1.0, -1.0], [1.0, 1.0], [-1.0, 1.0]].map(|[x, y]| Vertex { position: [x, y, 0.0, 1.0], ..Vertex::default() });
     let (store, none) = (Store::new(0), Texture::new());
     for (depth_test, second) in [(false, 3), (true, 1)] {
         let mut target = Target::new(2, 2).unwrap();

@@ -34,8 +34,8 @@ mod texture;
 mod vertex;
 
 pub use decode::{
-    bytes_per_texel, compressed_image_size, decode_compressed_to_rgba, decode_compressed_to_rgba_into, decode_to_rgba,
-    decode_to_rgba_into, CompressedFormat, Format, TexelType,
+    bytes_per_texel, compressed_image_size, decode_compressed_to_rgba, decode_compressed_to_rgba_into, decode_to_rgba, decode_to_rgba_into,
+    CompressedFormat, Format, TexelType,
 };
 pub use refusal::Refusal;
 pub use settings::{BlendFactor, CompareFunc, Environment, Face, FogMode, FrontFace, Rect, Settings, Stage};

@@ -257,19 +257,7 @@ impl Texture {
         let mut texel = 0;
         // SAFETY: each pointer and length are of one slice; the texel is a place of its own.
         Refusal::check(unsafe {
-            ffi::tf_sample(
-                self.0.as_ptr(),
-                self.0.len(),
-                store.0.as_ptr(),
-                store.0.len(),
-                s,
-                t,
-                dsdx,
-                dtdx,
-                dsdy,
-                dtdy,
-                &mut texel,
-            )
+            ffi::tf_sample(self.0.as_ptr(), self.0.len(), store.0.as_ptr(), store.0.len(), s, t, dsdx, dtdx, dsdy, dtdy, &mut texel)
         })?;
         Ok(texel.to_le_bytes())
     }
