@@ -23,7 +23,6 @@
 //! # }
 //! ```
 #![deny(missing_docs)]
-#![warn(unsafe_op_in_unsafe_fn)]
 
 mod decode;
 mod ffi;

@@ -472,6 +472,68 @@ mod tests {
         assert_eq!(numbers, [2, 3, 4, 5, 6, 7, 9, 10, 11, 12, 13, 16]);
     }
 
+    /// The kiln's window after its calls, each changed or left out by `change`.
+    fn kiln_window(change: impl Fn(&mut Call) -> bool) -> Vec<[u8; 4]> {
+        let mut machine = Machine::start();
+        for mut call in calls(1, false) {
+            if change(&mut call) {
+                let _ = machine.call(&call);
+            }
+        }
+        (0..96 * 100).map(|i| machine.target.pixel(100 + i % 100, i / 100).unwrap()).collect()
+    }
+
+    #[test]
+    fn the_kiln_shows_fog_mipmaps_and_both_textures() {
+        let mut machine = Machine::start();
+        let refusals: Vec<u32> = calls(1, false).iter().filter_map(|call| machine.call(call).err()).map(|r| r.number()).collect();
+        assert_eq!(refusals, [7, 7]);
+        let behind = |call: &Call| matches!(call, Call::Draw(draw) if draw.vertices.iter().any(|v| v.position[3] < 0.0));
+        assert_eq!(calls(1, false).iter().filter(|call| behind(call)).count(), 14);
+
+        let whole = kiln_window(|_| true);
+        let without_levels = kiln_window(|call| !matches!(call, Call::Define { texture: 4, level: 1.., .. }));
+        let without_light = kiln_window(|call| !matches!(call, Call::Define { texture: 5, .. }));
+        let without_fog = kiln_window(|call| {
+            if let Call::Draw(draw) = call {
+                draw.settings.fog = false;
+            }
+            true
+        });
+        for other in [without_levels, without_light, without_fog] {
+            assert!(whole.iter().zip(&other).filter(|(a, b)| a != b).count() > 500);
+        }
+    }
+
+    #[test]
+    fn guests_keep_to_what_is_theirs() {
+        let within = |inner: Rect, outer: Rect| {
+            inner.x >= outer.x
+                && inner.y >= outer.y
+                && inner.x + inner.width <= outer.x + outer.width
+                && inner.y + inner.height <= outer.y + outer.height
+        };
+        for guest in 0..GUESTS {
+            let (window, bytes, names) = (window(guest, false), guest * REGION..=(guest + 1) * REGION, guest * 4..guest * 4 + 4);
+            let mut machine = Machine::start();
+            for call in calls(guest, false) {
+                if machine.call(&call).is_err() {
+                    continue;
+                }
+                match call {
+                    Call::ClearColor { scissor, .. } | Call::ClearDepth { scissor, .. } => assert!(within(scissor.unwrap(), window)),
+                    Call::Define { texture, place, rgba, .. } => {
+                        assert!(names.contains(&texture) && bytes.contains(&place) && bytes.contains(&(place + rgba.len())))
+                    }
+                    Call::Patch { texture, .. } | Call::Set { texture, .. } => assert!(names.contains(&texture)),
+                    Call::Draw(draw) => {
+                        assert!(within(draw.settings.scissor.unwrap(), window) && draw.units.iter().all(|name| names.contains(name)))
+                    }
+                }
+            }
+        }
+    }
+
     #[test]
     fn windows_share_no_pixel_and_fill_the_frame() {
         let mut seen = vec![0; 800 * 480];
