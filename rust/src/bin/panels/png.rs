@@ -1,4 +1,4 @@
-//! A PNG of an RGB image: filtered rows, one deflate block with the fixed codes.
+//! A PNG of an RGB image: one filter for all rows, the one that comes out smallest; one deflate block with the fixed codes.
 
 pub fn encode(width: usize, height: usize, rgb: &[u8]) -> Vec<u8> {
     assert_eq!(rgb.len(), 3 * width * height);
@@ -8,7 +8,8 @@ pub fn encode(width: usize, height: usize, rgb: &[u8]) -> Vec<u8> {
     header.extend((height as u32).to_be_bytes());
     header.extend([8, 2, 0, 0, 0]); // eight bits, RGB, no interlace
     chunk(&mut png, b"IHDR", &header);
-    chunk(&mut png, b"IDAT", &zlib(&filtered(width, rgb)));
+    let data = [0, 1, 2].map(|filter| zlib(&filtered(width, rgb, filter))).into_iter().min_by_key(Vec::len).unwrap();
+    chunk(&mut png, b"IDAT", &data);
     chunk(&mut png, b"IEND", &[]);
     png
 }
@@ -35,20 +36,17 @@ fn adler32(data: &[u8]) -> u32 {
     b << 16 | a
 }
 
-/// Each row by that filter, of none, left and above, that leaves the smallest sum.
-fn filtered(width: usize, rgb: &[u8]) -> Vec<u8> {
+/// Every row as it is (0), less its left neighbour (1) or less the row above (2).
+fn filtered(width: usize, rgb: &[u8], filter: u8) -> Vec<u8> {
     let bytes = 3 * width;
     let mut out = Vec::new();
-    let mut above = vec![0; bytes];
-    for row in rgb.chunks_exact(bytes) {
-        let left: Vec<u8> = (0..bytes).map(|i| if i < 3 { row[i] } else { row[i].wrapping_sub(row[i - 3]) }).collect();
-        let up: Vec<u8> = row.iter().zip(&above).map(|(x, a)| x.wrapping_sub(*a)).collect();
-        let sum = |line: &[u8]| line.iter().map(|&x| u32::from(x.min(x.wrapping_neg()))).sum::<u32>();
-        let lines: [(u8, &[u8]); 3] = [(2, &up), (1, &left), (0, row)];
-        let (filter, line) = lines.into_iter().min_by_key(|(_, line)| sum(line)).unwrap();
+    for (y, row) in rgb.chunks_exact(bytes).enumerate() {
         out.push(filter);
-        out.extend(line);
-        above.copy_from_slice(row);
+        out.extend((0..bytes).map(|i| match filter {
+            1 if i >= 3 => row[i].wrapping_sub(row[i - 3]),
+            2 if y > 0 => row[i].wrapping_sub(rgb[(y - 1) * bytes + i]),
+            _ => row[i],
+        }));
     }
     out
 }
