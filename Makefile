@@ -1,11 +1,15 @@
 # make test     the gate: rt ci over every crate, then the comparison with the Rust and the benchmark's own check
 # make lib      the archives of the exported crates, target/staticlib/lib*.a (after rt ci they reuse what it proved)
 # make record   the Rust's answers written anew to crates/replay_*
+# make example  one guest in C, built and run (examples/panel.c)
+# make panels   forty guests on one frame, their calls interleaved by SEED (1), each held to itself alone; target/panels.png
+# make pictures docs/pictures written anew
+# make rust-check  the tests of rust/ and the panels' own checks
 
 # The crates that are exported for C and Rust to link.
 EXPORTED = probes tilefringe
 
-.PHONY: test lib differential-check bench-check record
+.PHONY: test lib differential-check bench-check record example panels pictures rust-check rust-build
 
 test:
 	@rt version
@@ -26,3 +30,34 @@ bench-check:
 
 record: lib
 	@differential/run --record
+
+ARCHIVE = target/staticlib/libtilefringe.a
+
+$(ARCHIVE):
+	@echo "$@ is not there: run make lib first" >&2; exit 1
+
+example: $(ARCHIVE)
+	@mkdir -p target/example
+	@gcc -Wall -Wextra -Werror -std=c99 -pedantic -Iinclude examples/panel.c $(ARCHIVE) -o target/example/panel
+	@target/example/panel > target/example/panel.out; s=$$?; cat target/example/panel.out; [ $$s = 0 ]
+	@diff examples/panel.out target/example/panel.out && echo "example: as examples/panel.out"
+
+CARGO = CARGO_HOME="$(CURDIR)/target/cargo-home" CARGO_TARGET_DIR="$(CURDIR)/target/cargo" cargo
+PANELS = target/cargo/release/panels
+
+rust-build: $(ARCHIVE)
+	@mkdir -p target/cargo-home
+	@cd rust && $(CARGO) build --release --offline --locked --quiet
+
+panels: rust-build
+	@$(PANELS) --seed $(or $(SEED),1) --png target/panels.png
+
+pictures: rust-build
+	@mkdir -p docs/pictures
+	@$(PANELS) --png docs/pictures/frame.png > /dev/null
+	@$(PANELS) --alone 0 --scale 4 --png docs/pictures/pump.png > /dev/null
+	@$(PANELS) --alone 1 --scale 4 --png docs/pictures/kiln.png > /dev/null
+
+rust-check: rust-build
+	@cd rust && $(CARGO) test --release --offline --locked --quiet
+	@rust/check
