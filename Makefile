@@ -1,4 +1,4 @@
-# make test     the gate: rt ci over every crate, then the comparison with the Rust and the benchmark's own check
+# make test     the gate: rt ci over every crate, the comparison with the Rust, the benchmark's own check, the example and the panels
 # make lib      the archives of the exported crates, target/staticlib/lib*.a (after rt ci they reuse what it proved)
 # make record   the Rust's answers written anew to crates/replay_*
 # make example  one guest in C, built and run (examples/panel.c)
@@ -15,7 +15,7 @@ test:
 	@rt version
 	@mkdir -p log
 	@ok=0; rt ci > log/ci 2>&1 || ok=1; cat log/ci; \
-	if [ $$ok = 0 ]; then $(MAKE) --no-print-directory lib && $(MAKE) --no-print-directory differential-check && $(MAKE) --no-print-directory bench-check || ok=1; fi; \
+	if [ $$ok = 0 ]; then $(MAKE) --no-print-directory lib && $(MAKE) --no-print-directory differential-check && $(MAKE) --no-print-directory bench-check && $(MAKE) --no-print-directory example && $(MAKE) --no-print-directory rust-check || ok=1; fi; \
 	if [ $$ok = 0 ]; then tail -n 1 log/ci; else echo "make test: FAILED"; exit 1; fi
 
 lib:
@@ -34,7 +34,7 @@ record: lib
 ARCHIVE = target/staticlib/libtilefringe.a
 
 $(ARCHIVE):
-	@echo "$@ is not there: run make lib first" >&2; exit 1
+	@rt staticlib tilefringe
 
 example: $(ARCHIVE)
 	@mkdir -p target/example
