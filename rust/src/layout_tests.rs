@@ -15,9 +15,9 @@ fn float(bytes: &[u8], at: usize) -> f32 {
 #[test]
 fn sizes_are_those_of_the_documents() {
     assert!(HEADER.contains(&format!("#define TF_TEXTURE_RECORD {}", Texture::SIZE)));
-    assert!(HEADER.contains(&format!("the records of the units 0 to 3 ({} bytes)", 4 * Texture::SIZE)));
-    assert!(HEADER.contains(&format!("settings {} bytes; stages {} bytes each", Settings::SIZE, Stage::SIZE)));
-    assert!(HEADER.contains(&format!("vertices {} bytes", 3 * Vertex::SIZE)));
+    assert!(HEADER.contains(&format!("the records of the units 0 to 3, {} bytes", 4 * Texture::SIZE)));
+    assert!(HEADER.contains(&format!("settings: {} bytes; stages: {} bytes each", Settings::SIZE, Stage::SIZE)));
+    assert!(HEADER.contains(&format!("vertices: {} bytes", 3 * Vertex::SIZE)));
     assert!(INTERFACE.contains(&format!("three of {} bytes, {} bytes", Vertex::SIZE, 3 * Vertex::SIZE)));
 }
 
