@@ -5,7 +5,7 @@ use std::process::ExitCode;
 use std::time::{Duration, Instant};
 
 /// Two sides that are both at the machine's store bandwidth measure alike within this factor.
-const NOISE: f64 = 1.05;
+const NOISE: f64 = 1.1;
 
 /// One line of the report.
 pub trait Workload {
@@ -31,7 +31,7 @@ struct Effort {
 }
 
 const WHOLE: Effort = Effort { rounds: 15, slice: Duration::from_millis(30), again: 0 };
-const BRIEF: Effort = Effort { rounds: 6, slice: Duration::from_millis(8), again: 12 };
+const BRIEF: Effort = Effort { rounds: 6, slice: Duration::from_millis(8), again: 60 };
 
 const USAGE: &str = "bench/run [--check] [NAME..]
 
