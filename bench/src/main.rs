@@ -5,7 +5,7 @@ use std::process::ExitCode;
 use std::time::{Duration, Instant};
 
 /// Two sides that are both at the machine's store bandwidth measure alike within this factor.
-const NOISE: f64 = 1.1;
+const NOISE: f64 = 1.05;
 
 /// One line of the report.
 pub trait Workload {
