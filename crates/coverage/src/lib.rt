@@ -94,10 +94,15 @@ pub fn inv_w_at(t: Raster, w: PerCorner) -> f32
 pub fn is_usable(iw: f32) -> bool
     ensures { λ r. ⌜ r ≡ usable iw ⌝ }
 {
-    if iw <= 0.0 {
+    if iw != iw {
         return false;
     }
-    floats::is_finite(iw)
+    // Above 0 and finite, by the bits.
+    let bits = f32::to_bits(iw);
+    if bits == 0 {
+        return false;
+    }
+    bits < 0x7f80_0000
 }
 
 // The weights with perspective; rec is 1 over the interpolated 1/w.

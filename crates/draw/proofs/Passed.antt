@@ -33,8 +33,8 @@ use Rattle.draw.proofs.Below.{below-at}
 
 -- ---- a chain of checks that gives 0 has passed them all
 
--- n is no number of a refusal
-some : (n : ℕ) {k : ℕ} → n ≡ suc k → n ≡ 0 → ⊥
+-- n is no 0
+pub some : (n : ℕ) {k : ℕ} → n ≡ suc k → n ≡ 0 → ⊥
 some n e f = omega (arith, e, f)
 
 module _ (width height colors depths : ℕ) (s : PipelineState) (stages : List TextureStage) (n : ℕ) (e : earlyCheck width height colors depths s stages n ≡ 0) where

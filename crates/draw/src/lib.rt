@@ -1,4 +1,6 @@
 // draw_triangle (raster.rs): the checks of document 01 in their order, then the draw.
+pub mod plain;
+
 ghost use mathlib.Core.Path.{_≡_};
 ghost use mathlib.Core.Bool.{true};
 ghost use Prim.Native.Nat.{_<_, _≤_};
@@ -195,17 +197,9 @@ fn vertices_fit(a: Vertex, b: Vertex, c: Vertex) -> bool
     vertex_fits(c)
 }
 
-// 1, 2, 3, 4, 7 and 6.
-fn check_early(
-    width: u32,
-    height: u32,
-    colors: usize,
-    depths: usize,
-    s: PipelineState,
-    stages: [TextureStage; 4],
-    count: usize,
-) -> Answer
-    ensures { λ r. ⌜ numberOf r ≡ earlyCheck width height colors depths s stages count ⌝ }
+// 1, 2, 3, 4 and 7.
+fn check_settings(width: u32, height: u32, colors: usize, depths: usize, s: PipelineState) -> Answer
+    ensures { λ r. ⌜ numberOf r ≡ earlyCheck width height colors depths s [] 0 ⌝ }
 {
     if !scissor::target_fits(width, height, colors, depths) {
         return Answer::Refused(Refusal::Target);
@@ -224,10 +218,28 @@ fn check_early(
     if !fog_fits(s) {
         return Answer::Refused(Refusal::FogCurve);
     }
-    if !stages_fit(stages, count) {
-        return Answer::Refused(Refusal::Stage);
-    }
     Answer::Done
+}
+
+// 1, 2, 3, 4, 7 and 6.
+fn check_early(
+    width: u32,
+    height: u32,
+    colors: usize,
+    depths: usize,
+    s: PipelineState,
+    stages: [TextureStage; 4],
+    count: usize,
+) -> Answer
+    ensures { λ r. ⌜ numberOf r ≡ earlyCheck width height colors depths s stages count ⌝ }
+{
+    let Answer::Refused(why) = check_settings(width, height, colors, depths, s) else {
+        if !stages_fit(stages, count) {
+            return Answer::Refused(Refusal::Stage);
+        }
+        return Answer::Done;
+    };
+    Answer::Refused(why)
 }
 
 // 8 and 5.

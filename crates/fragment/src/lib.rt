@@ -171,10 +171,8 @@ pub fn blend(src_factor: BlendFactor, dst_factor: BlendFactor, src: Rgba, dst: R
 pub fn masked_byte(on: bool, value: f32, stored: u8) -> u8
     ensures { λ r. ⌜ r ≡ maskedOf on value stored ⌝ }
 {
-    if on {
-        return channels::to_byte(value);
-    }
-    stored
+    let byte = channels::to_byte(value);
+    if on { byte } else { stored }
 }
 
 // A pixel's four bytes from i on.

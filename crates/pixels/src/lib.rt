@@ -1,17 +1,21 @@
 // The pixel's way (raster.rs, raster_clipped): weights, depth test, 1/w, colour, stages, alpha test, fog, blend, masked colour, depth, count.
+pub mod plain;
+
 ghost use mathlib.Core.Path.{_≡_};
 ghost use Prim.Native.Nat.{_+_, _*_, _<_, _≤_};
-ghost use lib.ListN.{length, set};
+ghost use lib.ListN.{length, getD, set};
 ghost use mathlib.Core.List.{[]};
 ghost use Rattle.detail.specs.Steps.{Thresholds};
 ghost use Rattle.gradients.specs.Gradients.{sumOf, perCorner};
+ghost use Rattle.fragment.specs.Fragment.{blendOf, unitsOf};
 ghost use Rattle.frames.specs.State.{pixelAt};
 ghost use Rattle.frames.specs.Gather.{putColor};
 ghost use Rattle.stages.specs.Stages.{StagesFit};
-ghost use Rattle.pixels.specs.Way.{drawing, fogDepthOf, finished, shadedOf, fragmentOf, blendedOf, writtenOf, pixelOf, drawnTo, recOf};
+ghost use Rattle.pixels.specs.Way.{drawing, finished, fragmentOf, writtenOf, pixelOf, drawnTo};
 use coverage::Primitive;
 use gradients::PerCorner;
 use levels::Texture;
+use settings::BlendFactor;
 use settings::PipelineState;
 use settings::Rgba;
 use settings::TextureStage;
@@ -74,32 +78,48 @@ pub fn fragment_at(
     let b = t.b.color;
     let c = t.c.color;
     let color = coverage::color_at(state.smooth_shading, p, a, b, c);
+    let fog_depth = fog_depth_at(p, t);
+    if count == 1 {
+        let stage = stages[0];
+        let texture = textures[0];
+        let sampled = stages::stage_at(store, table, stage, texture, t, w, rec, color);
+        return finish(state, z, fog_depth, sampled);
+    }
     let shaded = stages::stages_color(store, table, stages, count, textures, t, w, rec, color);
-    finish(state, z, fog_depth_at(p, t), shaded)
+    finish(state, z, fog_depth, shaded)
 }
 
-// The colour to write over a pixel's bytes.
-fn blended(colors: &[u8], i: usize, state: PipelineState, c: Rgba) -> Rgba
-    requires { ⌜ i * 4 + 4 ≤ length (now colors) ⌝ }
-    ensures { λ r. ⌜ r ≡ blendedOf state c (pixelAt (now (colors .entry)) [] i) ⌝ }
+// A colour blended over the pixel's bytes from k on. Its channels come one by one, so that they stay in registers.
+fn blended(
+    colors: &[u8],
+    k: usize,
+    src_factor: BlendFactor,
+    dst_factor: BlendFactor,
+    r: f32,
+    g: f32,
+    b: f32,
+    a: f32,
+) -> Rgba
+    requires { ⌜ k + 4 ≤ length (now colors) ⌝ }
+    ensures { λ c. ⌜ c ≡ blendOf «src_factor» «dst_factor» (record { r = r; g = g; b = b; a = a }) (unitsOf (getD (now (colors .entry)) k 0) (getD (now (colors .entry)) (k + 1) 0) (getD (now (colors .entry)) (k + 2) 0) (getD (now (colors .entry)) (k + 3) 0)) ⌝ }
 {
-    if state.blend {
-        let k = i * 4;
-        let dst = fragment::to_units(colors[k], colors[k + 1], colors[k + 2], colors[k + 3]);
-        let src_factor = state.blend_src;
-        let dst_factor = state.blend_dst;
-        return fragment::blend(src_factor, dst_factor, c, dst);
-    }
-    c
+    let dst = fragment::to_units(colors[k], colors[k + 1], colors[k + 2], colors[k + 3]);
+    fragment::blend(src_factor, dst_factor, Rgba { r, g, b, a }, dst)
 }
 
 fn write_color(colors: &mut [u8], i: usize, state: PipelineState, z: f32, c: Rgba)
     requires { ⌜ i * 4 + 4 ≤ length (now colors) ⌝ }
     ensures { λ _. ⌜ now (colors .exit) ≡ putColor (now (colors .entry)) i (writtenOf state z c (pixelAt (now (colors .entry)) [] i)) ⌝ }
 {
-    let out = blended(colors, i, state, c);
     let mask = state.color_mask;
-    fragment::put_color(colors, i * 4, mask, out);
+    if state.blend {
+        let src_factor = state.blend_src;
+        let dst_factor = state.blend_dst;
+        let out = blended(colors, i * 4, src_factor, dst_factor, c.r, c.g, c.b, c.a);
+        fragment::put_color(colors, i * 4, mask, out);
+        return;
+    }
+    fragment::put_color(colors, i * 4, mask, c);
 }
 
 fn write_depth(depths: &mut [f32], i: usize, state: PipelineState, z: f32, c: Rgba)

@@ -78,6 +78,24 @@ fn stage_color(
     fragment::apply_tex_env(stage, frag, texel_color(sampled.texel))
 }
 
+// One stage at a pixel: what a draw with a single stage does there, without the arrays of four.
+pub fn stage_at(
+    store: &[u8],
+    table: &[f64; 128],
+    stage: TextureStage,
+    texture: Texture,
+    t: Primitive,
+    w: PerCorner,
+    rec: f32,
+    frag: Rgba,
+) -> Rgba
+    requires { ⌜ Thresholds (now table) ⌝ ∗ ⌜ (validOf (length (now store)) texture ≡ true) × (stage .unit < 4) ⌝ }
+    ensures { λ c. ⌜ c ≡ stageColor (now (store .entry)) stage texture (coordinatesOf t w rec (stage .unit)) frag ⌝ }
+{
+    let p = coordinates_at(t, w, rec, stage.unit);
+    stage_color(store, table, stage, texture, p, frag)
+}
+
 // The colour after the stages in use. textures: the record that each stage reads.
 pub fn stages_color(
     store: &[u8],

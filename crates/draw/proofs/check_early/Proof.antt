@@ -1,41 +1,40 @@
-use mathlib.Core.Path.{refl}
+use mathlib.Core.Path.{refl, sym, ap, _∙_}
+use Rattle.answers.specs.Numbers.{numberOf}
 use Rattle.lists.proofs.Choice.{stay, leave}
-use Rattle.draw.specs.Checks.{earlyCheck}
+use Rattle.draw.proofs.Unstaged.{early-rest, early-refused}
 use borrow.Author.Needs.{needs}
 use Rattle.draw.proofs.check_early.Statement.{statement}
 use Rattle.draw.proofs.check_early.Tie as tie
 
+check-settings-requires : tie.Need-check-settings-requires
+check-settings-requires c κs = search needs
+
+enum-known-why : tie.Need-enum-known-why
+enum-known-why c = search needs
+
+enum-told : tie.Need-enum-told
+enum-told c = search needs
+
+stages-fit-requires : tie.Need-stages-fit-requires
+stages-fit-requires c κs = search needs
+
 returns : tie.Need-returns
-unfolding earlyCheck
-returns c = leave _ (c .before .target-fits .ensures) (c .if1 .taken) refl
+returns c = leave _ (c .before .stages-fit .ensures) (c .if1 .taken) refl ∙ early-rest (c .before .before .before .before .before .args .width) (c .before .before .before .before .before .args .height) (c .before .before .before .before .before .args .colors) (c .before .before .before .before .before .args .depths) (c .before .before .before .before .before .args .s) _ _ (sym (c .before .before .before .before .check-settings .ensures) ∙ ap numberOf (c .before .before .enum-told .given .1))
 
 returns-2 : tie.Need-returns-2
-unfolding earlyCheck
-returns-2 c = stay _ (c .before .before .before .target-fits .ensures) (c .before .before .if1 .left) (leave _ (c .before .scissor-fits .ensures) (c .if2 .taken) refl)
+returns-2 c = stay _ (c .before .stages-fit .ensures) (c .if1 .left) refl ∙ early-rest (c .before .before .before .before .before .args .width) (c .before .before .before .before .before .args .height) (c .before .before .before .before .before .args .colors) (c .before .before .before .before .before .args .depths) (c .before .before .before .before .before .args .s) _ _ (sym (c .before .before .before .before .check-settings .ensures) ∙ ap numberOf (c .before .before .enum-told .given .1))
 
 returns-3 : tie.Need-returns-3
-unfolding earlyCheck
-returns-3 c = stay _ (c .before .before .before .before .before .before .target-fits .ensures) (c .before .before .before .before .before .if1 .left) (stay _ (c .before .before .before .before .scissor-fits .ensures) (c .before .before .before .if2 .left) (leave _ (c .before .viewport-fits .ensures) (c .if3 .taken) refl))
-
-returns-4 : tie.Need-returns-4
-unfolding earlyCheck
-returns-4 c = stay _ (c .before .before .before .before .before .before .before .before .target-fits .ensures) (c .before .before .before .before .before .before .before .if1 .left) (stay _ (c .before .before .before .before .before .before .scissor-fits .ensures) (c .before .before .before .before .before .if2 .left) (stay _ (c .before .before .before .viewport-fits .ensures) (c .before .before .if3 .left) (leave _ (c .before .state-fits .ensures) (c .if4 .taken) refl)))
-
-returns-5 : tie.Need-returns-5
-unfolding earlyCheck
-returns-5 c = stay _ (c .before .before .before .before .before .before .before .before .before .before .target-fits .ensures) (c .before .before .before .before .before .before .before .before .before .if1 .left) (stay _ (c .before .before .before .before .before .before .before .before .scissor-fits .ensures) (c .before .before .before .before .before .before .before .if2 .left) (stay _ (c .before .before .before .before .before .viewport-fits .ensures) (c .before .before .before .before .if3 .left) (stay _ (c .before .before .before .state-fits .ensures) (c .before .before .if4 .left) (leave _ (c .before .fog-fits .ensures) (c .if5 .taken) refl))))
-
-returns-6 : tie.Need-returns-6
-unfolding earlyCheck
-returns-6 c = stay _ (c .before .before .before .before .before .before .before .before .before .before .before .before .target-fits .ensures) (c .before .before .before .before .before .before .before .before .before .before .before .if1 .left) (stay _ (c .before .before .before .before .before .before .before .before .before .before .scissor-fits .ensures) (c .before .before .before .before .before .before .before .before .before .if2 .left) (stay _ (c .before .before .before .before .before .before .before .viewport-fits .ensures) (c .before .before .before .before .before .before .if3 .left) (stay _ (c .before .before .before .before .before .state-fits .ensures) (c .before .before .before .before .if4 .left) (stay _ (c .before .before .before .fog-fits .ensures) (c .before .before .if5 .left) (leave _ (c .before .stages-fit .ensures) (c .if6 .taken) refl)))))
-
-returns-7 : tie.Need-returns-7
-unfolding earlyCheck
-returns-7 c = stay _ (c .before .before .before .before .before .before .before .before .before .before .before .before .target-fits .ensures) (c .before .before .before .before .before .before .before .before .before .before .before .if1 .left) (stay _ (c .before .before .before .before .before .before .before .before .before .before .scissor-fits .ensures) (c .before .before .before .before .before .before .before .before .before .if2 .left) (stay _ (c .before .before .before .before .before .before .before .viewport-fits .ensures) (c .before .before .before .before .before .before .if3 .left) (stay _ (c .before .before .before .before .before .state-fits .ensures) (c .before .before .before .before .if4 .left) (stay _ (c .before .before .before .fog-fits .ensures) (c .before .before .if5 .left) (stay _ (c .before .stages-fit .ensures) (c .if6 .left) refl)))))
+returns-3 c = early-refused (c .before .before .before .before .args .width) (c .before .before .before .before .args .height) (c .before .before .before .before .args .colors) (c .before .before .before .before .args .depths) (c .before .before .before .before .args .s) _ _ (c .before .why .given .0 .0) (sym (ap numberOf (c .before .why .given .1)) ∙ c .before .before .before .check-settings .ensures)
 
 pub check-early-spec : {M : Type 1} → statement M
 check-early-spec =
     tie.close
     (tie.spec
-    (λ c κs. search needs) returns (λ c κs. search needs) returns-2 (λ c κs. search needs) returns-3 (λ c κs. search needs)
-    returns-4 (λ c κs. search needs) returns-5 (λ c κs. search needs) returns-6 returns-7)
+    check-settings-requires
+    enum-known-why
+    enum-told
+    stages-fit-requires
+    returns
+    returns-2
+    returns-3)

@@ -4,7 +4,7 @@ use Rattle.fragment.proofs.masked_byte.Statement.{statement}
 use Rattle.fragment.proofs.masked_byte.Tie as tie
 
 returns : tie.Need-returns
-returns c = yes _ (c .before .if1 .taken) (c .to-byte .ensures)
+returns c = yes _ (c .if1 .taken) (c .before .to-byte .ensures)
 
 pub masked-byte-spec : {M : Type 1} → statement M
 masked-byte-spec = tie.close (tie.spec

@@ -1,0 +1,139 @@
+-- A draw without a stage: it is the same whatever its stages, records and texels are. Assumes nothing.
+use mathlib.Core.Path.{_≡_, refl, sym, ap, _∙_}
+use mathlib.Core.Bool.{Bool, true, false, cond}
+use mathlib.Core.List.{List, [], _∷_}
+use Prim.Native.Nat.{ℕ, zero, suc}
+use native.Mathlib.Omega.{arith}
+use lib.Dec.{eqb, leb}
+use lib.ListN.{length}
+use lib.Ieee.{Float}
+use Rattle.lists.specs.Lists.{iter, flat, tab, between}
+use borrow.Author.Tests.{eqb-true}
+use Rattle.lists.proofs.Choice.{was-true, no}
+use Rattle.answers.specs.declared.Refusal.{Refusal}
+use Rattle.answers.specs.Numbers.{refusalNumber}
+use Rattle.answers.proofs.Answered.{refused-test, refused-pos}
+use Rattle.levels.specs.declared.Texture.{Texture}
+use Rattle.settings.specs.declared.TextureStage.{TextureStage}
+use Rattle.settings.specs.declared.PipelineState.{PipelineState}
+use Rattle.scissor.specs.declared.Bounds.{Bounds}
+use Rattle.scissor.specs.declared.Bounds.the-variants.{Empty, Box}
+use Rattle.scissor.specs.Check.{targetFits, scissorFits}
+use Rattle.scissor.specs.Scissor.{boundsOf}
+use Rattle.setup.specs.declared.PixelBox.{PixelBox}
+use Rattle.setup.specs.declared.Setup.{Setup}
+use Rattle.setup.specs.declared.Setup.the-variants.{Nothing, Draws}
+use Rattle.clip.specs.Fan.{Triangle, leftOf, drawEach}
+use Rattle.vertices.specs.declared.Vertex.{Vertex}
+use Rattle.screen.specs.declared.View.{View}
+use Rattle.screen.specs.Screen.{viewportDraws, viewOf}
+use Rattle.frames.specs.State.{refused}
+use Rattle.frames.specs.Gather.{Drawn}
+use Rattle.stages.specs.Stages.{stagesColor, stagesAddresses}
+use Rattle.coverage.specs.declared.Primitive.{Primitive}
+use Rattle.pixels.specs.Way.{drawing, drawnTo, shadedOf, fragmentOf, fragAt, pixelOf}
+use Rattle.raster.specs.Fill.{primitiveOf, rowOf, fillOf, fillBy, setupFor, rasterOf, leftDrawn, inBoundsDrawn, drawnOf}
+use Rattle.draw.specs.Checks.{allBelow, viewportFits, stateFits, fogFits, stagesFit, recordsFit, verticesFit, earlyCheck, lateCheck}
+use Rattle.draw.proofs.Passed.{some, early-target}
+use Rattle.draw.specs.Draw.{DrawArgs, drawArgs, boundAt, boundTo, drawCheck, drawPassed, outcome, drewAll, drawOf}
+
+zero-first : (n m : ℕ) → cond (eqb n 0) m n ≡ 0 → n ≡ 0
+zero-first n m e = go (eqb n 0) refl
+  where
+    go : (b : Bool) → eqb n 0 ≡ b → n ≡ 0
+    go true h = eqb-true n 0 h
+    go false h = no m h refl ∙ e
+
+-- ---- the draw past its checks
+
+module _ (s : PipelineState) (store : List ℕ) (stages : List TextureStage) (xs : List Texture) where
+  same-pixel : (t : Primitive) (width py px : ℕ) (c : Drawn) → pixelOf store (drawing s stages 0 xs) t width py px c ≡ pixelOf [] (drawing s [] 0 []) t width py px c
+  unfolding pixelOf fragAt fragmentOf shadedOf stagesColor stagesAddresses iter flat
+  same-pixel t width py px c = refl
+
+  same-row : (t : Primitive) (width x0 x1 py : ℕ) (c : Drawn) → rowOf store (drawing s stages 0 xs) t width x0 x1 py c ≡ rowOf [] (drawing s [] 0 []) t width x0 x1 py c
+  unfolding rowOf
+  same-row t width x0 x1 py c = λ i. between (λ px x. same-pixel t width py px x i) x0 x1 c
+
+  same-fill : (t : Primitive) (width : ℕ) (p : PixelBox) (c : Drawn) → fillOf store (drawing s stages 0 xs) t width p c ≡ fillOf [] (drawing s [] 0 []) t width p c
+  unfolding fillOf
+  same-fill t width p c = λ i. between (λ py x. same-row t width (p .x0) (p .x1) py x i) (p .y0) (p .y1) c
+
+  same-raster : (view : View) (within : PixelBox) (width : ℕ) (t : Triangle) (c : Drawn) → rasterOf store (drawing s stages 0 xs) view within width t c ≡ rasterOf [] (drawing s [] 0 []) view within width t c
+  unfolding rasterOf
+  same-raster view within width t c = go (setupFor s view within t)
+    where
+      go : (k : Setup) → fillBy store (drawing s stages 0 xs) width t k c ≡ fillBy [] (drawing s [] 0 []) width t k c
+      go Nothing = refl
+      go (Draws r) = same-fill (primitiveOf r (t .a) (t .b) (t .c)) width (r .pixels) c
+
+  same-bounds : (width height : ℕ) (a b c : Vertex) (k : Bounds) (x : Drawn) → inBoundsDrawn store (drawing s stages 0 xs) width height a b c k x ≡ inBoundsDrawn [] (drawing s [] 0 []) width height a b c k x
+  unfolding leftDrawn
+  same-bounds width height a b c Empty x = refl
+  same-bounds width height a b c (Box x0 y0 x1 y1) x =
+      λ i. drawEach (λ t y. same-raster (viewOf (s .viewport) height) (record { x0 = x0; y0 = y0; x1 = x1; y1 = y1 }) width t y i) (leftOf a b c) x
+
+  pub unstaged-drawn : (width height : ℕ) (a b c : Vertex) (x : Drawn) → drawnOf store (drawing s stages 0 xs) width height a b c x ≡ drawnOf [] (drawing s [] 0 []) width height a b c x
+  unfolding drawnOf
+  unstaged-drawn width height a b c x = λ i. cond (viewportDraws (s .viewport)) (same-bounds width height a b c (boundsOf width height (s .scissor)) x i) x
+
+-- ---- the checks
+
+module _ (width height colors depths : ℕ) (s : PipelineState) where
+  -- past 1, 2, 3, 4 and 7 there is 6 alone
+  pub early-rest : (stages : List TextureStage) (n : ℕ) → earlyCheck width height colors depths s [] 0 ≡ 0 → cond (stagesFit stages n) 0 6 ≡ earlyCheck width height colors depths s stages n
+  unfolding earlyCheck
+  early-rest stages n e =
+      let a = was-true (targetFits width height colors depths) e (some 1 refl) in
+      let b = was-true (scissorFits (s .scissor)) (a .1) (some 2 refl) in
+      let c = was-true (viewportFits (s .viewport)) (b .1) (some 3 refl) in
+      let d = was-true (stateFits s) (c .1) (some 4 refl) in
+      let f = was-true (fogFits s) (d .1) (some 7 refl) in
+      rw (a .0, b .0, c .0, d .0, f .0)
+
+  through : (b : Bool) {x y k : ℕ} (z : ℕ) → (x ≡ k → y ≡ k) → cond b x z ≡ k → cond b y z ≡ k
+  through true z f e = f e
+  through false z f e = e
+
+  -- and one of them refuses whatever the stages are
+  pub early-refused : (stages : List TextureStage) (n : ℕ) (why : Refusal) → refusalNumber why ≡ earlyCheck width height colors depths s [] 0 → refusalNumber why ≡ earlyCheck width height colors depths s stages n
+  unfolding earlyCheck stagesFit allBelow
+  early-refused stages n why e =
+      sym (through (targetFits width height colors depths) 1
+      (through (scissorFits (s .scissor)) 2
+      (through (viewportFits (s .viewport)) 3
+      (through (stateFits s) 4
+      (through (fogFits s) 7 (λ z. absurd (omega (arith, refused-pos why, z))))))) (sym e))
+
+  module _ (a b c : Vertex) where
+    pub check-vertices : earlyCheck width height colors depths s [] 0 ≡ 0 → cond (verticesFit a b c) 0 5 ≡ drawCheck width height colors depths 0 (drawArgs s [] 0 a b c) []
+    unfolding drawCheck lateCheck recordsFit allBelow
+    check-vertices e = rw e
+
+    pub check-refused : (why : Refusal) → refusalNumber why ≡ earlyCheck width height colors depths s [] 0 → refusalNumber why ≡ drawCheck width height colors depths 0 (drawArgs s [] 0 a b c) []
+    unfolding drawCheck
+    check-refused why e = rw (refused-test why _ e) e
+
+    pub checked-target : drawCheck width height colors depths 0 (drawArgs s [] 0 a b c) [] ≡ 0 → targetFits width height colors depths ≡ true
+    unfolding drawCheck
+    checked-target e = early-target width height colors depths s [] 0 (zero-first _ _ e)
+
+-- ---- the call
+
+module _ (width height : ℕ) (s : PipelineState) (a b c : Vertex) (cs : List ℕ) (ds : List Float) where
+  pub drew-unstaged : {r : Drawn} → drawCheck width height (length cs) (length ds) 0 (drawArgs s [] 0 a b c) [] ≡ 0 → r ≡ drawnOf [] (drawing s [] 0 []) width height a b c (drawnTo cs ds 0)
+      → drewAll r ≡ drawOf [] width height (drawArgs s [] 0 a b c) [] cs ds
+  unfolding drawOf drawPassed
+  drew-unstaged e h = rw (e, h, unstaged-drawn s [] [] (boundTo [] 0 []) width height a b c (drawnTo cs ds 0))
+
+  pub refused-unstaged : (why : Refusal) → refusalNumber why ≡ drawCheck width height (length cs) (length ds) 0 (drawArgs s [] 0 a b c) []
+      → outcome (refused (refusalNumber why)) cs ds ≡ drawOf [] width height (drawArgs s [] 0 a b c) [] cs ds
+  unfolding drawOf
+  refused-unstaged why e = rw (refused-test why _ e, ← e)
+
+  -- whatever the stages, the records and the texels are
+  pub unstaged-draw : (store : List ℕ) (stages : List TextureStage) (units : List Texture)
+      → drawOf [] width height (drawArgs s [] 0 a b c) [] cs ds ≡ drawOf store width height (drawArgs s stages 0 a b c) units cs ds
+  unfolding drawOf drawPassed drawCheck earlyCheck stagesFit lateCheck recordsFit allBelow
+  unstaged-draw store stages units =
+      rw (unstaged-drawn s [] [] (boundTo [] 0 []) width height a b c (drawnTo cs ds 0), unstaged-drawn s store stages (boundTo stages 0 units) width height a b c (drawnTo cs ds 0))

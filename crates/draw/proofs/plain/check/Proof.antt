@@ -1,0 +1,40 @@
+use mathlib.Core.Path.{refl, sym, ap, _∙_}
+use Rattle.answers.specs.Numbers.{numberOf}
+use Rattle.lists.proofs.Choice.{stay, leave}
+use Rattle.draw.proofs.Unstaged.{check-vertices, check-refused}
+use borrow.Author.Needs.{needs}
+use Rattle.draw.proofs.plain.check.Statement.{statement}
+use Rattle.draw.proofs.plain.check.Tie as tie
+
+check-settings-requires : tie.Need-check-settings-requires
+check-settings-requires c κs = search needs
+
+enum-known-why : tie.Need-enum-known-why
+enum-known-why c = search needs
+
+enum-told : tie.Need-enum-told
+enum-told c = search needs
+
+vertices-fit-requires : tie.Need-vertices-fit-requires
+vertices-fit-requires c κs = search needs
+
+returns : tie.Need-returns
+returns c = leave _ (c .before .vertices-fit .ensures) (c .if1 .taken) refl ∙ check-vertices (c .before .before .before .before .before .args .width) (c .before .before .before .before .before .args .height) (c .before .before .before .before .before .args .colors) (c .before .before .before .before .before .args .depths) (c .before .before .before .before .before .args .state) (c .before .before .before .before .before .args .a) (c .before .before .before .before .before .args .b) (c .before .before .before .before .before .args .c) (sym (c .before .before .before .before .check-settings .ensures) ∙ ap numberOf (c .before .before .enum-told .given .1))
+
+returns-2 : tie.Need-returns-2
+returns-2 c = stay _ (c .before .vertices-fit .ensures) (c .if1 .left) refl ∙ check-vertices (c .before .before .before .before .before .args .width) (c .before .before .before .before .before .args .height) (c .before .before .before .before .before .args .colors) (c .before .before .before .before .before .args .depths) (c .before .before .before .before .before .args .state) (c .before .before .before .before .before .args .a) (c .before .before .before .before .before .args .b) (c .before .before .before .before .before .args .c) (sym (c .before .before .before .before .check-settings .ensures) ∙ ap numberOf (c .before .before .enum-told .given .1))
+
+returns-3 : tie.Need-returns-3
+returns-3 c = check-refused (c .before .before .before .before .args .width) (c .before .before .before .before .args .height) (c .before .before .before .before .args .colors) (c .before .before .before .before .args .depths) (c .before .before .before .before .args .state) (c .before .before .before .before .args .a) (c .before .before .before .before .args .b) (c .before .before .before .before .args .c) (c .before .why .given .0 .0) (sym (ap numberOf (c .before .why .given .1)) ∙ c .before .before .before .check-settings .ensures)
+
+pub check-spec : {M : Type 1} → statement M
+check-spec =
+    tie.close
+    (tie.spec
+    check-settings-requires
+    enum-known-why
+    enum-told
+    vertices-fit-requires
+    returns
+    returns-2
+    returns-3)
