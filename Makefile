@@ -1,5 +1,6 @@
 # make test     the gate: rt ci over every crate, the comparison with the Rust, the benchmark's own check, the example and the panels
 # make lib      the archives of the exported crates, target/staticlib/lib*.a (after rt ci they reuse what it proved)
+# make boundary-valgrind  abuse at the C boundary under valgrind (CASES=20000)
 # make record   the Rust's answers written anew to crates/replay_*
 # make example  one guest in C, built and run (examples/panel.c)
 # make panels   forty guests on one frame, their calls interleaved by SEED (1), each held to itself alone; target/panels.png
@@ -9,13 +10,13 @@
 # The crates that are exported for C and Rust to link.
 EXPORTED = probes tilefringe
 
-.PHONY: test lib differential-check bench-check record example panels pictures rust-check rust-build
+.PHONY: test lib differential-check boundary-valgrind bench-check record example panels pictures rust-check rust-build
 
 test:
 	@rt version
 	@mkdir -p log
 	@ok=0; rt ci > log/ci 2>&1 || ok=1; cat log/ci; \
-	if [ $$ok = 0 ]; then $(MAKE) --no-print-directory lib && $(MAKE) --no-print-directory differential-check && $(MAKE) --no-print-directory bench-check && $(MAKE) --no-print-directory example && $(MAKE) --no-print-directory rust-check || ok=1; fi; \
+	if [ $$ok = 0 ]; then $(MAKE) --no-print-directory lib && $(MAKE) --no-print-directory differential-check && $(MAKE) --no-print-directory boundary-valgrind && $(MAKE) --no-print-directory bench-check && $(MAKE) --no-print-directory example && $(MAKE) --no-print-directory rust-check || ok=1; fi; \
 	if [ $$ok = 0 ]; then tail -n 1 log/ci; else echo "make test: FAILED"; exit 1; fi
 
 lib:
@@ -24,6 +25,10 @@ lib:
 # Exit status 3 of a run: the Rust's source is not at hand, which is a failure only where CI=true.
 differential-check:
 	@differential/run || { s=$$?; [ $$s = 3 ] && [ "$${CI:-}" != true ]; }
+
+# Exit status 3: valgrind is not at hand either, or cannot be installed.
+boundary-valgrind:
+	@differential/valgrind $(CASES) || { s=$$?; [ $$s = 3 ] && [ "$${CI:-}" != true ]; }
 
 # A copy's speed hangs on where a process has its memory: a miss is measured anew in another process, six in all.
 bench-check:

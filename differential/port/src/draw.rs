@@ -1,27 +1,7 @@
 //! The draw of crates/tilefringe, and the layouts that it is handed (docs/INTERFACE.md). Numbers in layouts are little-endian.
 use crate::clip::Corner;
+use crate::raw::tf_draw_triangle;
 use std::fmt;
-
-unsafe extern "C" {
-    fn tf_draw_triangle(
-        colors: *mut u8,
-        colors_len: usize,
-        depths: *mut f32,
-        depths_len: usize,
-        width: u32,
-        height: u32,
-        store: *const u8,
-        store_len: usize,
-        units: *const u8,
-        units_len: usize,
-        settings: *const u8,
-        settings_len: usize,
-        stages: *const u8,
-        stages_len: usize,
-        vertices: *const u8,
-        vertices_len: usize,
-    ) -> u64;
-}
 
 /// A target that is lent.
 pub struct Target<'a> {

@@ -1,4 +1,5 @@
 //! crates/probes/src/probe_sampler.rt, and the sample of the C interface.
+use crate::raw::tf_sample;
 
 unsafe extern "C" {
     pub safe fn probe_q_of(width: u32, height: u32, dsdx: f32, dtdx: f32, dsdy: f32, dtdy: f32) -> f64;
@@ -12,19 +13,6 @@ unsafe extern "C" {
         coords_len: usize,
         out: *mut u32,
         out_len: usize,
-    ) -> u32;
-    fn tf_sample(
-        layout: *const u8,
-        layout_len: usize,
-        store: *const u8,
-        store_len: usize,
-        s: f32,
-        t: f32,
-        dsdx: f32,
-        dtdx: f32,
-        dsdy: f32,
-        dtdy: f32,
-        texel: &mut u32,
     ) -> u32;
 }
 

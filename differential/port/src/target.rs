@@ -1,50 +1,9 @@
 //! crates/tilefringe/src/target.rt
+pub use crate::raw::{tf_blend_factor, tf_compare_func};
+use crate::raw::{tf_clear_color, tf_clear_depth, tf_to_rgb565};
 
 /// A scissor's x, y, width and height, or the whole target.
 pub type Scissor = Option<(i32, i32, i32, i32)>;
-
-unsafe extern "C" {
-    fn tf_clear_color(
-        colors: *mut u8,
-        colors_len: usize,
-        depths_len: usize,
-        width: u32,
-        height: u32,
-        r: u8,
-        g: u8,
-        b: u8,
-        a: u8,
-        boxed: u32,
-        box_x: i32,
-        box_y: i32,
-        box_width: i32,
-        box_height: i32,
-    ) -> u32;
-    fn tf_clear_depth(
-        depths: *mut f32,
-        depths_len: usize,
-        colors_len: usize,
-        width: u32,
-        height: u32,
-        value: f32,
-        boxed: u32,
-        box_x: i32,
-        box_y: i32,
-        box_width: i32,
-        box_height: i32,
-    ) -> u32;
-    fn tf_to_rgb565(
-        colors: *const u8,
-        colors_len: usize,
-        depths_len: usize,
-        width: u32,
-        height: u32,
-        out: *mut u8,
-        out_len: usize,
-    ) -> u32;
-    pub safe fn tf_compare_func(code: u32) -> u32;
-    pub safe fn tf_blend_factor(code: u32) -> u32;
-}
 
 /// Answers document 01's number.
 pub fn clear_color(colors: &mut [u8], depths_len: usize, width: u32, height: u32, [r, g, b, a]: [u8; 4], scissor: Scissor) -> u32 {

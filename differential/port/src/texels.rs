@@ -1,11 +1,5 @@
 //! crates/tilefringe/src/decode.rt
-
-unsafe extern "C" {
-    safe fn tf_bytes_per_texel(format: u32, ty: u32) -> usize;
-    fn tf_decode_to_rgba(s: *const u8, s_len: usize, width: u32, height: u32, format: u32, ty: u32, out: *mut u8, out_len: usize) -> u32;
-    fn tf_decode_compressed_to_rgba(s: *const u8, s_len: usize, width: u32, height: u32, format: u32, out: *mut u8, out_len: usize) -> u32;
-    safe fn tf_compressed_image_size(format: u32, width: u32, height: u32, size: &mut usize) -> u32;
-}
+use crate::raw::{tf_bytes_per_texel, tf_compressed_image_size, tf_decode_compressed_to_rgba, tf_decode_to_rgba};
 
 /// 0 where the pair of codes is unknown.
 pub fn bytes_per_texel(format: u32, ty: u32) -> usize {
@@ -23,6 +17,6 @@ pub fn decode_compressed_to_rgba(s: &[u8], width: u32, height: u32, format: u32,
 
 /// The number that the query answers, and what it leaves in `size`.
 pub fn compressed_image_size(format: u32, width: u32, height: u32, mut size: usize) -> (u32, usize) {
-    let number = tf_compressed_image_size(format, width, height, &mut size);
+    let number = unsafe { tf_compressed_image_size(format, width, height, &mut size) };
     (number, size)
 }

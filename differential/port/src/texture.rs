@@ -1,34 +1,5 @@
 //! crates/tilefringe/src/texture_calls.rt
-
-unsafe extern "C" {
-    fn tf_new_texture(record: *mut u8, record_len: usize) -> u32;
-    fn tf_define_level(
-        record: *mut u8,
-        record_len: usize,
-        store: *mut u8,
-        store_len: usize,
-        level: u32,
-        width: u32,
-        height: u32,
-        place: usize,
-        rgba: *const u8,
-        rgba_len: usize,
-    ) -> u32;
-    fn tf_patch_level(
-        record: *const u8,
-        record_len: usize,
-        store: *mut u8,
-        store_len: usize,
-        level: u32,
-        xoffset: u32,
-        yoffset: u32,
-        width: u32,
-        height: u32,
-        patch: *const u8,
-        patch_len: usize,
-    ) -> u32;
-    fn tf_set_parameter(record: *mut u8, record_len: usize, pname: u32, value: u32) -> u32;
-}
+use crate::raw::{tf_define_level, tf_new_texture, tf_patch_level, tf_set_parameter};
 
 /// The bytes of a record's layout.
 pub const RECORD: usize = 244;

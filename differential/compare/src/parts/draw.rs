@@ -1,8 +1,8 @@
 //! The draw: every colour byte, depth and count against raster.rs, with the port's own samples behind its callback and with the Rust's;
 //! and what it answers to calls that document 01 refuses.
-mod inputs;
+pub(super) mod inputs;
 mod reached;
-mod reading;
+pub(super) mod reading;
 
 use self::inputs::*;
 use self::reached::*;

@@ -19,4 +19,5 @@ parts! {
     texture,
     draw,
     guests,
+    boundary,
 }

@@ -217,7 +217,7 @@ fn side(rng: &mut Rng) -> u32 {
 }
 
 /// A texture in the store from `base` on, and where it ends.
-fn record(rng: &mut Rng, base: u64) -> (Record, u64) {
+pub fn record(rng: &mut Rng, base: u64) -> (Record, u64) {
     let mut levels = [Level::default(); 11];
     let (mut w, mut h) = (side(rng), side(rng));
     if rng.chance(1, 64) {
