@@ -20,7 +20,8 @@
  *   16  unknown code
  *  255  a layout of another length, or with an unknown code: no call of document 01
  *
- * A slice is a pointer and a length; a pointer with length 0 may be any that is not used otherwise.
+ * A slice is a pointer and a length; with length 0 the pointer may be any, null too. What is not const may be written, and overlaps nothing
+ * else that the call is lent; const slices may overlap each other. Pointers to one number are never null.
  */
 #ifndef TILEFRINGE_H
 #define TILEFRINGE_H
@@ -90,7 +91,7 @@ uint32_t tf_set_parameter(uint8_t *record, size_t record_len, uint32_t pname, ui
 /*
  * Draws one triangle. units: the records of the units 0 to 3, 976 bytes; settings: 144 bytes; stages: 24 bytes each; vertices: 204 bytes
  * (docs/INTERFACE.md, Draw). Answers the count of pixel writes, or a refusal's number times 2^32: 1, 2, 3, 4, 7, 6, 8 or 5, in the order
- * of the checks, or 255 for a wrong layout, before them. The colours and the depths overlap no other slice.
+ * of the checks, or 255 for a wrong layout, before them.
  */
 uint64_t tf_draw_triangle(uint8_t *colors, size_t colors_len, float *depths, size_t depths_len, uint32_t width,
                           uint32_t height, const uint8_t *store, size_t store_len, const uint8_t *units,

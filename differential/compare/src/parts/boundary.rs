@@ -12,6 +12,8 @@ use ::port::boundary::*;
 use ::port::draw::Layouts;
 use ::port::lent::{faulted, on_crash, Ended, Fault, Lent, Memory, Side, SEGMENTATION_FAULT};
 use std::cell::{Cell, RefCell};
+use std::env;
+use std::sync::OnceLock;
 
 pub const PART: Part = Part {
     name: "boundary",
@@ -26,7 +28,8 @@ const ROOM: usize = 1 << 20;
 
 /// valgrind's exit status for an error, in a run under valgrind.
 fn valgrind() -> Option<i32> {
-    std::env::var("BOUNDARY_VALGRIND").ok().map(|n| n.parse().expect("BOUNDARY_VALGRIND is valgrind's --error-exitcode"))
+    static STATUS: OnceLock<Option<i32>> = OnceLock::new();
+    *STATUS.get_or_init(|| env::var("BOUNDARY_VALGRIND").ok().map(|n| n.parse().expect("BOUNDARY_VALGRIND is valgrind's --error-exitcode")))
 }
 
 fn memory(writable: bool, room: usize) -> Memory {
@@ -313,6 +316,11 @@ fn run(ctx: &mut Ctx) {
     if valgrind().is_none() {
         let mut rng = ctx.rng("largest");
         largest(&mut ctx.tally, &mut rng);
+        ctx.floor("slices before a page without rights", 100_000);
+        ctx.floor("slices after a page without rights", 100_000);
+        ctx.floor("empty slices on a page without rights", 1_000);
+    } else {
+        ctx.floor("slices in heap blocks of their own", 200_000);
     }
     for function in &FUNCTIONS {
         ctx.floor(function.name, 1_500);
@@ -335,10 +343,7 @@ fn run(ctx: &mut Ctx) {
     }
     ctx.floor("calls that change nothing, refused", 50_000);
     ctx.floor("calls that change bytes", 25_000);
-    ctx.floor("slices before a page without rights", 100_000);
-    ctx.floor("slices after a page without rights", 100_000);
     ctx.floor("slices within another that is read", 1_000);
-    ctx.floor("empty slices on a page without rights", 1_000);
 }
 
 fn words(style: Style) -> &'static str {
@@ -369,6 +374,7 @@ fn reached(tally: &mut Tally, call: &Call, style: Style, number: u32, changed: u
                     tally.count(&format!("{name}, {slice_name} null, done"));
                 }
             }
+            At::Start | At::End if valgrind().is_some() => tally.count("slices in heap blocks of their own"),
             At::End if slice.bytes.is_empty() => tally.count("empty slices on a page without rights"),
             At::End => tally.count("slices before a page without rights"),
             At::Start => tally.count("slices after a page without rights"),
