@@ -1,4 +1,4 @@
-//! Memory that is lent for one call, such that a byte read or written outside it ends the run.
+//! Memory that is lent for one call, such that a byte read or written past one of its ends stops the run.
 use std::alloc::{alloc, dealloc, Layout};
 use std::ffi::{c_char, c_int, c_uint, c_void};
 use std::marker::PhantomData;

@@ -1,7 +1,7 @@
 //! Abuse at the boundary: every function of include/tilefringe.h with numbers, lengths and bytes of any kind, null pointers with length 0
-//! among them. Each slice lies against a page without access rights, and what is only read on pages that cannot be written, so that a
-//! byte used outside what was lent ends the run; with BOUNDARY_VALGRIND=N each is a heap block of its own, for a run under valgrind with
-//! --error-exitcode=N. A refused call must leave every byte, and a call that is done every byte but those it is to write.
+//! among them. Each slice lies with one end against a page without access rights, and what is only read on pages that cannot be written,
+//! so that a byte used past that end stops the run; with BOUNDARY_VALGRIND=N each is a heap block of its own, for a run under valgrind
+//! with --error-exitcode=N. A refused call must leave every byte, and a call that is done every byte but those it is to write.
 mod inputs;
 
 use self::inputs::*;
