@@ -22,6 +22,6 @@ pub struct Part {
     /// How many cases it runs unless --cases says otherwise: some seconds to a minute.
     pub cases: u64,
     pub run: fn(&mut Ctx),
-    /// A fixed sample of the Rust's answers, at least 1,000, for crates/replay_NAME.
+    /// A fixed sample of the Rust's answers, at least 400, for crates/replay_NAME.
     pub record: Option<fn(&mut Record)>,
 }

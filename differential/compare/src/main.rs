@@ -89,7 +89,7 @@ fn compare_all(asked: &Asked) -> ExitCode {
         (part.run)(&mut ctx);
         if let Some(record) = recorded(part) {
             ctx.tally.add("recorded answers", record.answers());
-            ctx.floor("recorded answers", 1000);
+            ctx.floor("recorded answers", 400);
             ctx.tally.cases += 1;
             if let Some(fault) = record.fault(part.name) {
                 ctx.tally.difference(fault);

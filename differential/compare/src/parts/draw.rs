@@ -3,10 +3,12 @@
 pub(super) mod inputs;
 mod reached;
 pub(super) mod reading;
+mod recorded;
 
 use self::inputs::*;
 use self::reached::*;
 use self::reading::{is_call, refusal, ORDER, RECORD_CODES, SETTINGS_CODES};
+use crate::judge::Verdict;
 use crate::{judged, same, Ctx, Part, Rng};
 use ::port::clip::Corner;
 use ::port::draw::{draw_triangle, Layouts, Record, Target};
@@ -20,8 +22,7 @@ pub const PART: Part = Part {
     about: "draw_triangle with all its settings, stages and targets, clipped, refused and wrongly laid out calls",
     cases: 200_000,
     run,
-    // Nothing is recorded until a program replays it.
-    record: None,
+    record: Some(recorded::record),
 };
 
 /// What is lent to be written.
@@ -198,6 +199,14 @@ impl<'a> Sampler<'a> {
     }
 }
 
+/// The counts of the triangles that are drawn, and what they leave, from the Rust with the port's samples.
+fn rust_with_samples(input: &Input, before: &Lent, drawn: &[[Corner; 3]], sampler: &Sampler) -> Verdict<(Vec<u64>, Lent)> {
+    judged!(o => {
+        sampler.at.set(0);
+        rust_drawn!(o, input, before, drawn, &|unit, s, t, dsdx, dtdx, dsdy, dtdy| sampler.sample(unit, [s, t, dsdx, dtdx, dsdy, dtdy]))
+    })
+}
+
 // ---- the comparison
 
 /// What differs between what the Rust and the port leave.
@@ -232,10 +241,7 @@ fn check(input: &Input) -> (Reached, Option<String>) {
     }
 
     let sampler = Sampler::new(input, &store);
-    let verdict = judged!(o => {
-        sampler.at.set(0);
-        rust_drawn!(o, input, &before, &drawn, &|unit, s, t, dsdx, dtdx, dsdy, dtdy| sampler.sample(unit, [s, t, dsdx, dtdx, dsdy, dtdy]))
-    });
+    let verdict = rust_with_samples(input, &before, &drawn, &sampler);
     let (counts, rust) = verdict.answer;
     let mut next = counts.iter();
     let wanted: Vec<(u32, u32)> = refusals.iter().map(|&n| (n, if n == 0 { *next.next().unwrap() as u32 } else { 0 })).collect();

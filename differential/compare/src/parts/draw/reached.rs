@@ -30,6 +30,12 @@ impl Reached {
         }
     }
 
+    /// The names of the counters above 0.
+    pub fn met(&self) -> Vec<String> {
+        let above = self.counts.iter().filter(|(_, &n)| n > 0);
+        above.map(|((group, name), _)| format!("{group} {name}").trim().to_string()).collect()
+    }
+
     pub fn tell(self, tally: &mut Tally) {
         for ((group, name), n) in self.counts {
             tally.add(format!("{group} {name}").trim(), n);
@@ -80,8 +86,15 @@ pub fn shapes(reached: &mut Reached, input: &Input, corners: &[Corner; 3], count
             reached.add("written and across three planes or more", "", 1);
         }
     }
+    let left = oracle::raster::probe::clip_frustum(&corners).map_or(0, |left| left.len());
+    let off = |(x, y, w, h): (i32, i32, i32, i32)| {
+        let empty = |start: i32, side: i32, end: u32| side <= 0 || start >= end as i32 || i64::from(start) + i64::from(side) <= 0;
+        empty(x, w, input.width) || empty(y, h, input.height)
+    };
     let w = corners.map(|v| v.pos[3].abs());
     let named = [
+        (count > 0 && left > 3, "written and a fan of several triangles"),
+        (input.settings.scissor().is_some_and(off), "draws with a scissor box off the target"),
         (w.iter().any(|&w| w < 1e-6), "draws with a w near 0"),
         (corners.iter().any(|v| v.pos.iter().any(|x| x.abs() > 100_000.0)), "draws with a number past 100,000"),
         (input.width == 0 || input.height == 0, "draws on a target with a side of 0"),
@@ -190,14 +203,13 @@ fn possible_pairs() -> u64 {
     (all - VALUES[4] - VALUES[12..].iter().sum::<usize>()) as u64
 }
 
-pub fn floors(ctx: &mut Ctx) {
-    ctx.floor("pairs of settings that a pixel was written under", possible_pairs());
-    ctx.floor_share("draws that write a pixel", "draws", 40);
-    ctx.floor_share("draws clipped and visible", "draws", 10);
+/// The counters of single calls, all of which the calls and the record must reach.
+pub fn names() -> Vec<String> {
+    let mut names = Vec::new();
     for (at, number) in REFUSED.iter().enumerate() {
-        ctx.floor(&format!("refused by {number}"), 1000);
+        names.push(format!("refused by {number}"));
         if at < 7 {
-            ctx.floor(&format!("with a later fault, refused by {number}"), 1000);
+            names.push(format!("with a later fault, refused by {number}"));
         }
     }
     let reached = |list: &[(u32, &str)]| -> Vec<String> {
@@ -218,29 +230,42 @@ pub fn floors(ctx: &mut Ctx) {
         ("pixels through stages:", PLANES[..5].iter().map(|n| n.to_string()).collect()),
         ("written and across plane", PLANES.iter().map(|n| n.to_string()).collect()),
     ];
-    for (group, names) in groups {
-        for name in names {
-            ctx.floor(&format!("{group} {name}"), 1000);
-        }
+    names.extend(groups.into_iter().flat_map(|(group, names)| names.into_iter().map(move |name| format!("{group} {name}"))));
+    names.extend(
+        [
+            "pixels kept back by depth comparison Never",
+            "pixels kept back by alpha comparison Never",
+            "pixels kept back by culling FrontAndBack",
+            "pixels in fog",
+            "pixels without fog",
+            "pixels shaded smoothly",
+            "pixels shaded flat",
+            "pixels with a masked channel",
+            "pixels without depth write",
+            "pixels in a scissor box",
+            "pixels at a stage whose level 0 is incomplete",
+            "pixels with a unit in two stages",
+            "pixels with a unit after a higher one",
+            "written and across three planes or more",
+            "written and a fan of several triangles",
+            "draws with a w near 0",
+            "draws with a number past 100,000",
+            "draws with a scissor box off the target",
+            "draws on a target with a side of 0",
+        ]
+        .map(String::from),
+    );
+    names
+}
+
+pub fn floors(ctx: &mut Ctx) {
+    ctx.floor("pairs of settings that a pixel was written under", possible_pairs());
+    ctx.floor_share("draws that write a pixel", "draws", 40);
+    ctx.floor_share("draws clipped and visible", "draws", 10);
+    for name in names() {
+        ctx.floor(&name, 1000);
     }
     for name in [
-        "pixels kept back by depth comparison Never",
-        "pixels kept back by alpha comparison Never",
-        "pixels kept back by culling FrontAndBack",
-        "pixels in fog",
-        "pixels without fog",
-        "pixels shaded smoothly",
-        "pixels shaded flat",
-        "pixels with a masked channel",
-        "pixels without depth write",
-        "pixels in a scissor box",
-        "pixels at a stage whose level 0 is incomplete",
-        "pixels with a unit in two stages",
-        "pixels with a unit after a higher one",
-        "written and across three planes or more",
-        "draws with a w near 0",
-        "draws with a number past 100,000",
-        "draws on a target with a side of 0",
         "pairs with a shared edge that both write",
         "calls with the Rust's samples that must be equal",
         "calls with the Rust's samples of another level of detail",
