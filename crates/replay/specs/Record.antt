@@ -48,6 +48,10 @@ word32Of l i = word16Of l i + 65536 * word16Of l (i + 2)
 unfoldable pub word64Of : List ℕ → ℕ → ℕ
 word64Of l i = word32Of l i + 4294967296 * word32Of l (i + 4)
 
--- the same float: NaN is NaN, and a zero has its sign, which is that of its reciprocal
+-- the zero a: a zero of the same sign, which is that of its reciprocal
+unfoldable pub sameZeroOf : Float → Float → Bool
+sameZeroOf a b = cond (Ieee.eq b zero32) (Ieee.eq (one32 ⊘ a) (one32 ⊘ b)) false
+
+-- the same float: NaN is NaN, and a zero has its sign
 unfoldable pub sameOf : Float → Float → Bool
-sameOf a b = cond (Ieee.ne a a) (Ieee.ne b b) (cond (Ieee.eq a zero32) (Ieee.eq (one32 ⊘ a) (one32 ⊘ b)) (Ieee.eq a b))
+sameOf a b = cond (Ieee.ne a a) (Ieee.ne b b) (cond (Ieee.eq a zero32) (sameZeroOf a b) (Ieee.eq a b))

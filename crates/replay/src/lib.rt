@@ -6,7 +6,7 @@ ghost use mathlib.Core.Bool.{cond};
 ghost use lib.Ieee as Ieee;
 ghost use lib.Ieee.{binary32};
 ghost use Rattle.io.specs.Counts.{Counts};
-ghost use Rattle.replay.specs.Record.{stepOf, sumOf, byteOr0, word16Of, word32Of, word64Of, sameOf, startOf, endedOf, toldOf};
+ghost use Rattle.replay.specs.Record.{stepOf, sumOf, byteOr0, word16Of, word32Of, word64Of, sameZeroOf, sameOf, startOf, endedOf, toldOf};
 
 // Whether the record goes on, how many answers were right, how many there were, the bytes read and their checksum.
 pub struct Tally {
@@ -176,6 +176,16 @@ pub fn f32_at(b: &[u8], at: usize) -> f32
     floats::from_bits(u32_at(b, at))
 }
 
+// Whether b is the zero a. The reciprocals of a zero and of a small subnormal are the same infinity, so b is held to zero first.
+fn same_zero(a: f32, b: f32) -> bool
+    ensures { λ r. ⌜ r ≡ sameZeroOf a b ⌝ }
+{
+    if b == 0.0 {
+        return 1.0 / a == 1.0 / b;
+    }
+    false
+}
+
 // Whether two floats are the same: NaN is NaN, and a zero has its sign.
 pub fn same(a: f32, b: f32) -> bool
     ensures { λ r. ⌜ r ≡ sameOf a b ⌝ }
@@ -184,7 +194,7 @@ pub fn same(a: f32, b: f32) -> bool
         return b != b;
     }
     if a == 0.0 {
-        return 1.0 / a == 1.0 / b;
+        return same_zero(a, b);
     }
     a == b
 }
