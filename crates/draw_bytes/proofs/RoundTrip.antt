@@ -2,7 +2,7 @@
 use mathlib.Core.Bool.{Bool, true, false, cond, not}
 use mathlib.Core.Path.{_≡_, refl, sym, ap, _∙_}
 use mathlib.Core.List.{List, [], _∷_}
-use Prim.Native.Nat.{ℕ, zero, suc, _+_, _-_, _*_, _/_, _%_, _^_, _≤_, _<_}
+use Prim.Native.Nat.{ℕ, zero, suc, _+_, _-_, _*_, _%_, _^_, _≤_, _<_}
 use native.Mathlib.Nat.{add-zero}
 use native.Mathlib.Omega.{arith}
 use lib.Dec.{T, eqb, ltb}
@@ -22,6 +22,7 @@ use Rattle.settings.specs.declared.TexEnvMode.the-variants.{Modulate, Replace, 
 use Rattle.settings.specs.declared.TextureStage.{TextureStage}
 use Rattle.vertices.specs.declared.Vertex.{Vertex}
 use Rattle.layouts.specs.Words.{word}
+use Rattle.layouts.proofs.RoundTrip.{digits}
 use Rattle.draw_layouts.specs.Numbers.{signedOf, signedAt, floatAt, switchAt, colorAt, fourAt, eightAt}
 use Rattle.draw_layouts.specs.Codes.{envKnown, envOf}
 use Rattle.draw_layouts.specs.Stages.{readStage}
@@ -30,18 +31,6 @@ use Rattle.draw_bytes.specs.Write.{wordBytes, wordBytesAt, bytesOf, bits
 use Rattle.draw_bytes.proofs.Words.{length-word}
 
 -- ---- words
-
-digits-2 : (n : ℕ) → n % 256 + 256 * (n / 256 % 256) ≡ n % 65536
-digits-2 n = omega arith
-
-digits-3 : (n : ℕ) → n % 65536 + 65536 * (n / 65536 % 256) ≡ n % 16777216
-digits-3 n = omega arith
-
-digits-4 : (n : ℕ) → n % 16777216 + 16777216 * (n / 16777216 % 256) ≡ n % 4294967296
-digits-4 n = omega arith
-
-digits : (n : ℕ) → n % 256 + 256 * (n / 256 % 256) + 65536 * (n / 65536 % 256) + 16777216 * (n / 16777216 % 256) ≡ n % 4294967296
-digits n = rw (digits-2 n, digits-3 n, digits-4 n)
 
 byte-of : (ws : List ℕ) (k j : ℕ) → k < length ws → j < 4 → getD (bytesOf ws) (k * 4 + j) 0 ≡ getD (wordBytes (getD ws k 0)) j 0
 unfolding bytesOf wordBytesAt

@@ -42,7 +42,8 @@ digits-3 n = omega arith
 digits-4 : (n : ℕ) → n % 16777216 + 16777216 * (n / 16777216 % 256) ≡ n % 4294967296
 digits-4 n = omega arith
 
-digits : (n : ℕ) → n % 256 + 256 * (n / 256 % 256) + 65536 * (n / 65536 % 256) + 16777216 * (n / 16777216 % 256) ≡ n % 4294967296
+-- four bytes, the low one first, are a number modulo 2 ^ 32
+pub digits : (n : ℕ) → n % 256 + 256 * (n / 256 % 256) + 65536 * (n / 65536 % 256) + 16777216 * (n / 16777216 % 256) ≡ n % 4294967296
 digits n = rw (digits-2 n, digits-3 n, digits-4 n)
 
 fifth : (n : ℕ) → n / 1099511627776 ≡ n / 4294967296 / 256
