@@ -76,7 +76,8 @@ fn code(rng: &mut Rng, list: &[(u32, &str)]) -> u32 {
     rng.pick(list).0
 }
 
-const LIMIT: f32 = 1048576.0;
+/// The largest float that the checks let pass.
+pub const LIMIT: f32 = 1048576.0;
 
 /// The input of docs/DIFFERENCES.md on which the Rust as released overflows.
 const OVERFLOWING: [[f32; 4]; 3] = [
