@@ -551,6 +551,28 @@ pub fn are_four_known(p: bool, q: bool, r: bool, s: bool) -> bool
     s
 }
 
+fn is_unit_known(b: &[u8], at: usize) -> bool
+    requires { ⌜ at + 244 ≤ length (now b) ⌝ }
+    ensures { λ r. ⌜ r ≡ readUnit (now (b .entry)) at .known ⌝ }
+{
+    let end = at + 244;
+    layouts::is_known(&b[at..end])
+}
+
+// Whether a layout holds the units' records: for a draw that reads none of them.
+pub fn are_units_known(b: &[u8]) -> bool
+    ensures { λ r. ⌜ r ≡ readUnits (now (b .entry)) .known ⌝ }
+{
+    if b.len() != 976 {
+        return false;
+    }
+    let first = is_unit_known(b, 0);
+    let second = is_unit_known(b, 244);
+    let third = is_unit_known(b, 488);
+    let fourth = is_unit_known(b, 732);
+    are_four_known(first, second, third, fourth)
+}
+
 pub fn read_units(b: &[u8]) -> UnitsRead
     ensures { λ r. ⌜ r ≡ readUnits (now (b .entry)) ⌝ }
 {
