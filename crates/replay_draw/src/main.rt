@@ -77,7 +77,7 @@ fn is_answer(answer: DrawAnswer, number: u32, count: u32) -> bool {
     }
 }
 
-// The draw of the layouts, if all four are known.
+// The draw of the layouts, if all four are known: by its own way where no stage is in use.
 fn is_drawn_right(
     entry: &[u8],
     store: &[u8],
@@ -91,6 +91,8 @@ fn is_drawn_right(
     if !draw_layouts::are_four_known(u.known, s.known, t.known, v.known) {
         return false;
     }
+    let width = replay::u32_at(entry, 0);
+    let height = replay::u32_at(entry, 4);
     let units = u.units;
     let state = s.state;
     let stages = t.stages;
@@ -98,11 +100,15 @@ fn is_drawn_right(
     let a = v.a;
     let b = v.b;
     let c = v.c;
+    if count == 0 {
+        let answer = draw::plain::draw_triangle(colors, depths, width, height, state, a, b, c);
+        return is_answer(answer, replay::u32_at(entry, 8), replay::u32_at(entry, 12));
+    }
     let answer = draw::draw_triangle(
         colors,
         depths,
-        replay::u32_at(entry, 0),
-        replay::u32_at(entry, 4),
+        width,
+        height,
         store,
         units,
         state,
