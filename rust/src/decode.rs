@@ -86,8 +86,7 @@ fn output(width: u32, height: u32) -> Vec<u8> {
 /// assert_eq!(bytes_per_texel(Format(0), TexelType::UNSIGNED_BYTE), None);
 /// ```
 pub fn bytes_per_texel(format: Format, ty: TexelType) -> Option<usize> {
-    // SAFETY: lent no memory.
-    match unsafe { ffi::tf_bytes_per_texel(format.0, ty.0) } {
+    match ffi::tf_bytes_per_texel(format.0, ty.0) {
         0 => None,
         bytes => Some(bytes),
     }

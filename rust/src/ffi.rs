@@ -1,7 +1,7 @@
 //! include/tilefringe.h, function by function in its order.
 
-extern "C" {
-    pub fn tf_bytes_per_texel(format: u32, ty: u32) -> usize;
+unsafe extern "C" {
+    pub safe fn tf_bytes_per_texel(format: u32, ty: u32) -> usize;
     pub fn tf_decode_to_rgba(
         data: *const u8,
         data_len: usize,
@@ -73,8 +73,8 @@ extern "C" {
         out: *mut u8,
         out_len: usize,
     ) -> u32;
-    pub fn tf_compare_func(code: u32) -> u32;
-    pub fn tf_blend_factor(code: u32) -> u32;
+    pub safe fn tf_compare_func(code: u32) -> u32;
+    pub safe fn tf_blend_factor(code: u32) -> u32;
     pub fn tf_new_texture(record: *mut u8, record_len: usize) -> u32;
     pub fn tf_define_level(
         record: *mut u8,

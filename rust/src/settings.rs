@@ -73,8 +73,7 @@ impl CompareFunc {
     /// assert_eq!(CompareFunc::from_code(0x0208), Err(Refusal::Code));
     /// ```
     pub fn from_code(code: u32) -> Result<CompareFunc, Refusal> {
-        // SAFETY: lent no memory.
-        Refusal::check(unsafe { ffi::tf_compare_func(code) })?;
+        Refusal::check(ffi::tf_compare_func(code))?;
         CompareFunc::ALL.iter().copied().find(|f| f.code() == code).ok_or(Refusal::Code)
     }
 }
@@ -116,8 +115,7 @@ impl BlendFactor {
     /// assert_eq!(BlendFactor::from_code(2), Err(Refusal::Code));
     /// ```
     pub fn from_code(code: u32) -> Result<BlendFactor, Refusal> {
-        // SAFETY: lent no memory.
-        Refusal::check(unsafe { ffi::tf_blend_factor(code) })?;
+        Refusal::check(ffi::tf_blend_factor(code))?;
         BlendFactor::ALL.iter().copied().find(|f| f.code() == code).ok_or(Refusal::Code)
     }
 }

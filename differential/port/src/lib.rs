@@ -5,6 +5,7 @@ pub mod clip;
 pub mod draw;
 pub mod floats;
 pub mod lent;
+#[path = "../../../rust/src/ffi.rs"]
 mod raw;
 pub mod settings;
 pub mod target;
