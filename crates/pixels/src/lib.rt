@@ -1,5 +1,6 @@
 // The pixel's way (raster.rs, raster_clipped): weights, depth test, 1/w, colour, stages, alpha test, fog, blend, masked colour, depth, count.
 pub mod plain;
+pub mod solid;
 
 ghost use mathlib.Core.Path.{_≡_};
 ghost use Prim.Native.Nat.{_+_, _*_, _<_, _≤_};

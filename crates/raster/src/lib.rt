@@ -1,5 +1,6 @@
 // Filling the triangles that clipping leaves (raster.rs, raster_clipped and draw_triangle past its checks).
 pub mod plain;
+mod solid;
 
 ghost use mathlib.Core.Path.{_≡_};
 ghost use Prim.Native.Nat.{_+_, _*_, _-_, _<_, _≤_};

@@ -7,6 +7,7 @@ ghost use Rattle.pixels.specs.Way.{drawing, drawnTo};
 ghost use Rattle.clip.specs.Fan.{triangleOf, fanOf, drawEach};
 ghost use Rattle.clip.specs.Clip.{clipped};
 ghost use Rattle.raster.specs.Fill.{rowOf, fillOf, rasterOf, leftDrawn};
+use crate::solid;
 use coverage::Primitive;
 use screen::View;
 use settings::PipelineState;
@@ -87,6 +88,9 @@ fn raster_clipped(
     };
     let pixels = raster.pixels;
     let t = crate::primitive(raster, a, b, c);
+    if pixels::solid::is_solid(state) {
+        return solid::fill(colors, depths, state, t, width, pixels, written);
+    }
     fill(colors, depths, state, t, width, pixels, written)
 }
 
