@@ -2,7 +2,7 @@
 # make lib      the archives of the exported crates, target/staticlib/lib*.a (after rt ci they reuse what it proved)
 # make boundary-valgrind  abuse at the C boundary under valgrind (CASES=20000)
 # make record   the Rust's answers written anew to crates/replay_*
-# make example  one guest in C, built and run (examples/panel.c)
+# make example  one guest in C, built as C99 and as C++ and run (examples/panel.c)
 # make panels   forty guests on one frame, their calls interleaved by SEED (1), each held to itself alone; target/panels.png
 # make pictures docs/pictures written anew
 # make rust-check  the tests of rust/ and the panels' own checks
@@ -43,11 +43,16 @@ ARCHIVE = target/staticlib/libtilefringe.a
 $(ARCHIVE):
 	@rt staticlib tilefringe
 
+# The header is for C99 and for C++: the guest is built as both.
+WARNINGS = -Wall -Wextra -Werror -pedantic
+
 example: $(ARCHIVE)
 	@mkdir -p target/example
-	@gcc -Wall -Wextra -Werror -std=c99 -pedantic -Iinclude examples/panel.c $(ARCHIVE) -o target/example/panel
+	@gcc $(WARNINGS) -std=c99 -Iinclude examples/panel.c $(ARCHIVE) -o target/example/panel
+	@g++ $(WARNINGS) -std=c++11 -Iinclude -x c++ examples/panel.c -x none $(ARCHIVE) -o target/example/panel_cpp
 	@target/example/panel > target/example/panel.out; s=$$?; cat target/example/panel.out; [ $$s = 0 ]
-	@diff examples/panel.out target/example/panel.out && echo "example: as examples/panel.out"
+	@target/example/panel_cpp > target/example/panel_cpp.out
+	@for built in panel panel_cpp; do diff examples/panel.out target/example/$$built.out || exit 1; done; echo "example: as examples/panel.out, built as C and as C++"
 
 CARGO = CARGO_HOME="$(CURDIR)/target/cargo-home" CARGO_TARGET_DIR="$(CURDIR)/target/cargo" cargo
 PANELS = target/cargo/release/panels

@@ -7,3 +7,4 @@ pub mod Good
 pub mod States
 pub mod Worked
 pub mod Needed
+pub mod Runs

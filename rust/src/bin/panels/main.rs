@@ -16,8 +16,8 @@ panels: forty guests on a frame of 800 by 480, each in its window
 
 usage: panels [--seed N] [--guests N] [--alone G] [--overlap] [--png FILE] [--scale N]
 
-Prints a line a guest, `guest bill refused`, then a hash of the order of calls, a hash of the frame, and whether each guest has the answers,
-the bill and the window that it has alone.
+Prints a line a guest, `guest bill refused`, then a hash of the order of calls, then one line that says whether each guest has the answers,
+the bill and the window that it has alone, with a hash of the frame.
 
   --seed N     interleaves the calls by this seed (1)
   --guests N   only the first N guests, 1 to 40 (40)
@@ -201,22 +201,26 @@ fn report(options: &Options, out: &mut impl Write) -> std::io::Result<bool> {
         writeln!(out, "{guest} {} {}", account.bill(), account.refused())?;
     }
     writeln!(out, "order {:016x} of {} calls", hash(order.iter().map(|&guest| guest as u8)), order.len())?;
-    writeln!(out, "frame {:016x}", frame_hash(&all.0))?;
     if let Some(file) = &options.png {
         let whole = Rect::new(0, 0, WIDTH as i32, machine::HEIGHT as i32);
         let part = options.alone.map_or(whole, |guest| guests::window(guest, options.overlap));
         std::fs::write(file, picture(&all.0, part, options.scale))
             .map_err(|error| std::io::Error::new(error.kind(), format!("{file}: {error}")))?;
     }
+    let frame = frame_hash(&all.0);
     if let Some(guest) = options.alone {
-        writeln!(out, "guest {guest} alone")?;
+        writeln!(out, "guest {guest} alone; frame {frame:016x}")?;
         return Ok(true);
     }
     let found = differences(options, &calls, &all, &mut progress);
     if found.is_empty() {
-        writeln!(out, "equal: each of {} guests has the answers, the bill and the window that it has alone", options.guests)?;
+        writeln!(
+            out,
+            "equal: each of {} guests has the answers, the bill and the window that it has alone; frame {frame:016x}",
+            options.guests
+        )?;
     } else {
-        writeln!(out, "NOT EQUAL to each guest alone: {}", found.join("; "))?;
+        writeln!(out, "NOT EQUAL to each guest alone: {}; frame {frame:016x}", found.join("; "))?;
     }
     Ok(found.is_empty())
 }
