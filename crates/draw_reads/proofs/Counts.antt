@@ -59,7 +59,7 @@ module _ (st : List ℕ) (d : Drawing) (width m : ℕ) where
   abbrev writes : List Item → Drawn → ℕ → ℕ
   writes is c q = pixelWrites st d (fragmentsAt width q is) (shown drawn c q)
 
-  step-count : (i : Item) (c : Drawn) → step st d width i c .count ≡ c .count + wrote (fragOf st d i (shown drawn c (pixelNo width i)) .put)
+  pub step-count : (i : Item) (c : Drawn) → step st d width i c .count ≡ c .count + wrote (fragOf st d i (shown drawn c (pixelNo width i)) .put)
   unfolding pixelOf
   step-count i c = put-count c (pixelNo width i) _
 

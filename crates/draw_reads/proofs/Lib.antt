@@ -3,3 +3,4 @@ pub mod Runs
 pub mod Pixels
 pub mod Takes
 pub mod Counts
+pub mod Few

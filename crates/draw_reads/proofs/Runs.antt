@@ -83,7 +83,7 @@ with-corner : (P : Raster → Type 0) (x : Corner) (f : ScreenVertex → Setup) 
 with-corner P Corner.Nothing f h r e = never e
 with-corner P (Corner.Kept v) f h r e = h v r e
 
-setup-within : (view : View) (z : DepthRange) (f : FrontFace) (cull : Cull) (within : PixelBox) (a b c : Vertex) (r : Raster)
+pub setup-within : (view : View) (z : DepthRange) (f : FrontFace) (cull : Cull) (within : PixelBox) (a b c : Vertex) (r : Raster)
     → setupOf view z f cull within a b c ≡ Draws r → Within (r .pixels) within
 unfolding setupOf
 setup-within view z f cull within a b c =

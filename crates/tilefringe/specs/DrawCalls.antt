@@ -29,6 +29,12 @@ drawNumber done = 0
 drawNumber (drew n) = n
 drawNumber (refused why) = why * 4294967296
 
+-- what a caller reads in the upper half of the answer: the refusal's number, or 0
+abbrev pub refusedBy : Answer → ℕ
+refusedBy done = 0
+refusedBy (drew n) = 0
+refusedBy (refused why) = why
+
 abbrev pub calledOf : Outcome → Called
 calledOf o = called (drawNumber (o .answer)) (o .colors) (o .depths)
 

@@ -5,37 +5,20 @@ use Rattle.coords.proofs.Steps.{below-more, below-repeat, below-edge}
 use mathlib.Core.Path.{sym}
 use Rattle.coords.proofs.below_next.Statement.{statement}
 use Rattle.coords.proofs.below_next.Tie as tie
-use Rattle.coords.proofs.below_next.Reads as reads
-use Rattle.coords.proofs.below_next.Lts as lts
 
--- src/lib.rt:224:16
-enum-told : tie.Need-enum-told
-enum-told c = search needs
-
--- src/lib.rt:224:16
 add-if1 : tie.Need-add-if1
 add-if1 c = record { fits = omega (arith, first-in _ _ _ _ (c .before .before .pre .0) (c .before .before .pre .2), c .before .before .pre .1) }
 
--- src/lib.rt:225:24
-add-result : tie.Need-add-result
-add-result c = search needs
-
--- src/lib.rt:225:17
 returns : tie.Need-returns
 returns c = rw (c .before .enum-told .given .1) (below-more (c .before .before .before .args .n) (c .before .before .before .args .first) (c .before .before .before .args .size) (c .before .before .before .pre .0) (rw (sym (c .before .enum-told .given .1)) (c .before .before .before .pre .2)) (c .if1 .taken))
 
--- src/lib.rt:229:30
-enum-told-2 : tie.Need-enum-told-2
-enum-told-2 c = search needs
-
--- src/lib.rt:218:1
 returns-2 : tie.Need-returns-2
 returns-2 c = rw (c .before .enum-told .given .1) (below-repeat (c .before .before .before .args .n) (c .before .before .before .args .first) (c .before .before .before .args .size) (c .before .before .before .pre .0) (rw (sym (c .before .enum-told .given .1)) (c .before .before .before .pre .2)) (c .if1 .left))
 
--- src/lib.rt:218:1
 returns-3 : tie.Need-returns-3
 returns-3 c = rw (c .enum-told2 .given .1) (below-edge (c .before .before .args .n) (c .before .before .args .size) (c .before .before .pre .0))
 
 pub below-next-spec : {M : Type 1} → statement M
 below-next-spec =
-    tie.close (tie.spec enum-told add-if1 add-result returns enum-told-2 returns-2 returns-3)
+    tie.close (tie.spec
+    (λ c. search needs) add-if1 (λ c. search needs) returns (λ c. search needs) returns-2 returns-3)

@@ -6,18 +6,6 @@ use borrow.Author.Needs.{needs}
 use Rattle.draw.proofs.check_early.Statement.{statement}
 use Rattle.draw.proofs.check_early.Tie as tie
 
-check-settings-requires : tie.Need-check-settings-requires
-check-settings-requires c κs = search needs
-
-enum-known-why : tie.Need-enum-known-why
-enum-known-why c = search needs
-
-enum-told : tie.Need-enum-told
-enum-told c = search needs
-
-stages-fit-requires : tie.Need-stages-fit-requires
-stages-fit-requires c κs = search needs
-
 returns : tie.Need-returns
 returns c = leave _ (c .before .stages-fit .ensures) (c .if1 .taken) refl ∙ early-rest (c .before .before .before .before .before .args .width) (c .before .before .before .before .before .args .height) (c .before .before .before .before .before .args .colors) (c .before .before .before .before .before .args .depths) (c .before .before .before .before .before .args .s) _ _ (sym (c .before .before .before .before .check-settings .ensures) ∙ ap numberOf (c .before .before .enum-told .given .1))
 
@@ -31,10 +19,4 @@ pub check-early-spec : {M : Type 1} → statement M
 check-early-spec =
     tie.close
     (tie.spec
-    check-settings-requires
-    enum-known-why
-    enum-told
-    stages-fit-requires
-    returns
-    returns-2
-    returns-3)
+    (λ c κs. search needs) (λ c. search needs) (λ c. search needs) (λ c κs. search needs) returns returns-2 returns-3)

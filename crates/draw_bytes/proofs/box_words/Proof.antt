@@ -5,15 +5,6 @@ use borrow.Author.Needs.{needs}
 use Rattle.draw_bytes.proofs.box_words.Statement.{statement}
 use Rattle.draw_bytes.proofs.box_words.Tie as tie
 
-enum-told : tie.Need-enum-told
-enum-told c = search needs
-
-enum-known-s : tie.Need-enum-known-s
-enum-known-s c = search needs
-
-number-words-requires : tie.Need-number-words-requires
-number-words-requires c κs = search needs
-
 returns : tie.Need-returns
 unfolding boxWords
 returns c = rw (c .enum-told .given .1)
@@ -24,4 +15,5 @@ returns-2 c = rw (c .before .before .before .before .before .before .s .given .1
 
 pub box-words-spec : {M : Type 1} → statement M
 box-words-spec =
-    tie.close (tie.spec enum-told enum-known-s number-words-requires returns returns-2)
+    tie.close (tie.spec
+    (λ c. search needs) (λ c. search needs) (λ c κs. search needs) returns returns-2)

@@ -6,18 +6,6 @@ use borrow.Author.Needs.{needs}
 use Rattle.draw_bytes.proofs.number_words.Statement.{statement}
 use Rattle.draw_bytes.proofs.number_words.Tie as tie
 
-int-bits-requires : tie.Need-int-bits-requires
-int-bits-requires c κs = search needs
-
-int-bits-requires-2 : tie.Need-int-bits-requires-2
-int-bits-requires-2 c κs = search needs
-
-int-bits-requires-3 : tie.Need-int-bits-requires-3
-int-bits-requires-3 c κs = search needs
-
-int-bits-requires-4 : tie.Need-int-bits-requires-4
-int-bits-requires-4 c κs = search needs
-
 returns : tie.Need-returns
 unfolding numberWords
 returns c = λ t. (c .before .before .before .int-bits .ensures ∙ ap bitsOf (back32 _ (c .before .before .before .before .fits .x))) t ∷ (c .before .before .int-bits2 .ensures ∙ ap bitsOf (back32 _ (c .before .before .before .before .fits .y))) t ∷ (c .before .int-bits3 .ensures ∙ ap bitsOf (back32 _ (c .before .before .before .before .fits .width))) t ∷ (c .int-bits4 .ensures ∙ ap bitsOf (back32 _ (c .before .before .before .before .fits .height))) t ∷ []
@@ -26,8 +14,4 @@ pub number-words-spec : {M : Type 1} → statement M
 number-words-spec =
     tie.close
     (tie.spec
-    int-bits-requires
-    int-bits-requires-2
-    int-bits-requires-3
-    int-bits-requires-4
-    returns)
+    (λ c κs. search needs) (λ c κs. search needs) (λ c κs. search needs) (λ c κs. search needs) returns)

@@ -21,30 +21,6 @@ abbrev μ-loop : tie.MeasureT-loop
 loop-holds : tie.Need-loop-holds Inv-loop μ-loop
 loop-holds c = (search needs, refl, refl, flat-none 4 (wordBytesAt (c .before .before .args .words .now)) (λ n. length-word (c .before .before .args .words .now) n) _, c .before .before .pre)
 
-mul-word-bytes : tie.Need-mul-word-bytes Inv-loop μ-loop
-mul-word-bytes c = search needs
-
-shared-slice-read-word-bytes : tie.Need-shared-slice-read-word-bytes Inv-loop μ-loop
-shared-slice-read-word-bytes c = search needs
-
-word-bytes-requires : tie.Need-word-bytes-requires Inv-loop μ-loop
-word-bytes-requires c κs = search needs
-
-mul-copy-in : tie.Need-mul-copy-in Inv-loop μ-loop
-mul-copy-in c = search needs
-
-slice-aggregate-copy-in : tie.Need-slice-aggregate-copy-in Inv-loop μ-loop
-slice-aggregate-copy-in c = search needs
-
-copy-in-requires : tie.Need-copy-in-requires Inv-loop μ-loop
-copy-in-requires c κs = search needs
-
-add-i : tie.Need-add-i Inv-loop μ-loop
-add-i c = search needs
-
-loop-less : tie.Need-loop-less Inv-loop μ-loop
-loop-less c = search needs
-
 loop-again : tie.Need-loop-again Inv-loop μ-loop
 unfolding wordBytesAt wordBytes
 loop-again c = (
@@ -54,9 +30,6 @@ loop-again c = (
   c .before .before .copy-in .ensures ∙ rw (c .before .before .before .before .before .before .before .before .loop .inv .3, c .before .before .before .before .before .word-bytes .ensures) (flat-more 4 (wordBytesAt (c .before .before .before .before .before .before .before .before .before .before .before .args .words .now)) (λ n. length-word (c .before .before .before .before .before .before .before .before .before .before .before .args .words .now) n) (c .before .before .before .before .before .before .before .before .loop .i) _),
   c .before .before .before .before .before .before .before .before .loop .inv .4,
 )
-
-same-length : tie.Need-same-length Inv-loop μ-loop
-same-length c = search needs
 
 returns : tie.Need-returns Inv-loop μ-loop
 unfolding bytesOf
@@ -68,17 +41,5 @@ pub put-words-spec : {M : Type 1} → statement M
 put-words-spec =
     tie.close
     (tie.spec
-    Inv-loop
-    μ-loop
-    loop-holds
-    mul-word-bytes
-    shared-slice-read-word-bytes
-    word-bytes-requires
-    mul-copy-in
-    slice-aggregate-copy-in
-    copy-in-requires
-    add-i
-    loop-less
-    loop-again
-    same-length
-    returns)
+    Inv-loop μ-loop loop-holds (λ c. search needs) (λ c. search needs) (λ c κs. search needs) (λ c. search needs)
+    (λ c. search needs) (λ c κs. search needs) (λ c. search needs) (λ c. search needs) loop-again (λ c. search needs) returns)

@@ -4,21 +4,6 @@ use borrow.Author.Needs.{needs}
 use Rattle.draw_bytes.proofs.stage_words.Statement.{statement}
 use Rattle.draw_bytes.proofs.stage_words.Tie as tie
 
-env-code-requires : tie.Need-env-code-requires
-env-code-requires c κs = search needs
-
-float-bits-requires : tie.Need-float-bits-requires
-float-bits-requires c κs = search needs
-
-float-bits-requires-2 : tie.Need-float-bits-requires-2
-float-bits-requires-2 c κs = search needs
-
-float-bits-requires-3 : tie.Need-float-bits-requires-3
-float-bits-requires-3 c κs = search needs
-
-float-bits-requires-4 : tie.Need-float-bits-requires-4
-float-bits-requires-4 c κs = search needs
-
 returns : tie.Need-returns
 unfolding stageWords
 returns c = λ t. c .before .before .before .before .before .before .args .x .unit ∷ c .before .before .before .before .env-code .ensures t ∷ c .before .before .before .float-bits .ensures t ∷ c .before .before .float-bits2 .ensures t ∷ c .before .float-bits3 .ensures t ∷ c .float-bits4 .ensures t ∷ []
@@ -27,9 +12,5 @@ pub stage-words-spec : {M : Type 1} → statement M
 stage-words-spec =
     tie.close
     (tie.spec
-    env-code-requires
-    float-bits-requires
-    float-bits-requires-2
-    float-bits-requires-3
-    float-bits-requires-4
+    (λ c κs. search needs) (λ c κs. search needs) (λ c κs. search needs) (λ c κs. search needs) (λ c κs. search needs)
     returns)

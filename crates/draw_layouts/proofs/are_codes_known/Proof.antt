@@ -5,15 +5,9 @@ use borrow.Author.Needs.{needs}
 use Rattle.draw_layouts.proofs.are_codes_known.Statement.{statement}
 use Rattle.draw_layouts.proofs.are_codes_known.Tie as tie
 
-are-tests-known-requires : tie.Need-are-tests-known-requires
-are-tests-known-requires c κs = search needs
-
 returns : tie.Need-returns
 unfolding codesKnown
 returns c = leave _ (c .before .are-tests-known .ensures) (c .if1 .taken) refl
-
-are-modes-known-requires : tie.Need-are-modes-known-requires
-are-modes-known-requires c κs = search needs
 
 returns-2 : tie.Need-returns-2
 unfolding codesKnown
@@ -21,4 +15,5 @@ returns-2 c = stay _ (c .before .before .are-tests-known .ensures) (c .before .i
 
 pub are-codes-known-spec : {M : Type 1} → statement M
 are-codes-known-spec =
-    tie.close (tie.spec are-tests-known-requires returns are-modes-known-requires returns-2)
+    tie.close (tie.spec
+    (λ c κs. search needs) returns (λ c κs. search needs) returns-2)

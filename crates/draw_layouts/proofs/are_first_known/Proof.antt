@@ -5,29 +5,17 @@ use borrow.Author.Needs.{needs}
 use Rattle.draw_layouts.proofs.are_first_known.Statement.{statement}
 use Rattle.draw_layouts.proofs.are_first_known.Tie as tie
 
-is-stage-known-requires : tie.Need-is-stage-known-requires
-is-stage-known-requires c κs = search needs
-
 returns : tie.Need-returns
 unfolding firstKnown
 returns c = leave _ (c .before .is-stage-known .ensures) (c .if1 .taken) refl
-
-is-stage-known-requires-2 : tie.Need-is-stage-known-requires-2
-is-stage-known-requires-2 c κs = search needs
 
 returns-2 : tie.Need-returns-2
 unfolding firstKnown
 returns-2 c = stay _ (c .before .before .before .is-stage-known .ensures) (c .before .before .if1 .left) (leave _ (c .before .is-stage-known2 .ensures) (c .if2 .taken) refl)
 
-is-stage-known-requires-3 : tie.Need-is-stage-known-requires-3
-is-stage-known-requires-3 c κs = search needs
-
 returns-3 : tie.Need-returns-3
 unfolding firstKnown
 returns-3 c = stay _ (c .before .before .before .before .before .is-stage-known .ensures) (c .before .before .before .before .if1 .left) (stay _ (c .before .before .before .is-stage-known2 .ensures) (c .before .before .if2 .left) (leave _ (c .before .is-stage-known3 .ensures) (c .if3 .taken) refl))
-
-is-stage-known-requires-4 : tie.Need-is-stage-known-requires-4
-is-stage-known-requires-4 c κs = search needs
 
 returns-4 : tie.Need-returns-4
 unfolding firstKnown
@@ -37,11 +25,5 @@ pub are-first-known-spec : {M : Type 1} → statement M
 are-first-known-spec =
     tie.close
     (tie.spec
-    is-stage-known-requires
-    returns
-    is-stage-known-requires-2
-    returns-2
-    is-stage-known-requires-3
-    returns-3
-    is-stage-known-requires-4
+    (λ c κs. search needs) returns (λ c κs. search needs) returns-2 (λ c κs. search needs) returns-3 (λ c κs. search needs)
     returns-4)

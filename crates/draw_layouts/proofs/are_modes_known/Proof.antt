@@ -6,31 +6,13 @@ use borrow.Author.Needs.{needs}
 use Rattle.draw_layouts.proofs.are_modes_known.Statement.{statement}
 use Rattle.draw_layouts.proofs.are_modes_known.Tie as tie
 
-word-at-requires : tie.Need-word-at-requires
-word-at-requires c κs = search needs
-
-is-cull-requires : tie.Need-is-cull-requires
-is-cull-requires c κs = search needs
-
 returns : tie.Need-returns
 unfolding modesKnown
 returns c = leave _ (c .before .is-cull .ensures ∙ ap cullKnown (c .before .before .word-at .ensures)) (c .if1 .taken) refl
 
-word-at-requires-2 : tie.Need-word-at-requires-2
-word-at-requires-2 c κs = search needs
-
-is-face-requires : tie.Need-is-face-requires
-is-face-requires c κs = search needs
-
 returns-2 : tie.Need-returns-2
 unfolding modesKnown
 returns-2 c = stay _ (c .before .before .before .before .is-cull .ensures ∙ ap cullKnown (c .before .before .before .before .before .word-at .ensures)) (c .before .before .before .if1 .left) (leave _ (c .before .is-face .ensures ∙ ap faceKnown (c .before .before .word-at2 .ensures)) (c .if2 .taken) refl)
-
-word-at-requires-3 : tie.Need-word-at-requires-3
-word-at-requires-3 c κs = search needs
-
-is-fog-requires : tie.Need-is-fog-requires
-is-fog-requires c κs = search needs
 
 returns-3 : tie.Need-returns-3
 unfolding modesKnown
@@ -40,12 +22,5 @@ pub are-modes-known-spec : {M : Type 1} → statement M
 are-modes-known-spec =
     tie.close
     (tie.spec
-    word-at-requires
-    is-cull-requires
-    returns
-    word-at-requires-2
-    is-face-requires
-    returns-2
-    word-at-requires-3
-    is-fog-requires
-    returns-3)
+    (λ c κs. search needs) (λ c κs. search needs) returns (λ c κs. search needs) (λ c κs. search needs) returns-2
+    (λ c κs. search needs) (λ c κs. search needs) returns-3)

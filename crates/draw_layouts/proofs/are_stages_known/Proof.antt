@@ -6,9 +6,6 @@ use borrow.Author.Needs.{needs}
 use Rattle.draw_layouts.proofs.are_stages_known.Statement.{statement}
 use Rattle.draw_layouts.proofs.are_stages_known.Tie as tie
 
-are-first-known-requires : tie.Need-are-first-known-requires
-are-first-known-requires c κs = search needs
-
 returns : tie.Need-returns
 unfolding stagesKnown
 returns c = yes _ (eq-eqb _ _ (c .before .if1 .taken)) (c .are-first-known .ensures)
@@ -18,4 +15,5 @@ unfolding stagesKnown
 returns-2 c = no _ (ne-eqb _ _ (c .if1 .left)) refl
 
 pub are-stages-known-spec : {M : Type 1} → statement M
-are-stages-known-spec = tie.close (tie.spec are-first-known-requires returns returns-2)
+are-stages-known-spec = tie.close (tie.spec
+    (λ c κs. search needs) returns returns-2)

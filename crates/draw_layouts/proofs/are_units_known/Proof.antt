@@ -9,21 +9,6 @@ returns : tie.Need-returns
 unfolding readUnits
 returns c = rw (ne-eqb _ _ (c .if1 .taken))
 
-is-unit-known-requires : tie.Need-is-unit-known-requires
-is-unit-known-requires c κs = search needs
-
-is-unit-known-requires-2 : tie.Need-is-unit-known-requires-2
-is-unit-known-requires-2 c κs = search needs
-
-is-unit-known-requires-3 : tie.Need-is-unit-known-requires-3
-is-unit-known-requires-3 c κs = search needs
-
-is-unit-known-requires-4 : tie.Need-is-unit-known-requires-4
-is-unit-known-requires-4 c κs = search needs
-
-are-four-known-requires : tie.Need-are-four-known-requires
-are-four-known-requires c κs = search needs
-
 returns-2 : tie.Need-returns-2
 unfolding readUnits
 returns-2 c = c .are-four-known .ensures ∙ rw (eq-eqb _ _ (c .before .before .before .before .before .if1 .left), c .before .before .before .before .is-unit-known .ensures, c .before .before .before .is-unit-known2 .ensures, c .before .before .is-unit-known3 .ensures, c .before .is-unit-known4 .ensures)
@@ -32,10 +17,5 @@ pub are-units-known-spec : {M : Type 1} → statement M
 are-units-known-spec =
     tie.close
     (tie.spec
-    returns
-    is-unit-known-requires
-    is-unit-known-requires-2
-    is-unit-known-requires-3
-    is-unit-known-requires-4
-    are-four-known-requires
-    returns-2)
+    returns (λ c κs. search needs) (λ c κs. search needs) (λ c κs. search needs) (λ c κs. search needs)
+    (λ c κs. search needs) returns-2)

@@ -3,51 +3,6 @@ use borrow.Author.Needs.{needs}
 use Rattle.draw_layouts.proofs.eight_at.Statement.{statement}
 use Rattle.draw_layouts.proofs.eight_at.Tie as tie
 
-float-at-requires : tie.Need-float-at-requires
-float-at-requires c κs = search needs
-
-add-float-at : tie.Need-add-float-at
-add-float-at c = search needs
-
-float-at-requires-2 : tie.Need-float-at-requires-2
-float-at-requires-2 c κs = search needs
-
-add-float-at-2 : tie.Need-add-float-at-2
-add-float-at-2 c = search needs
-
-float-at-requires-3 : tie.Need-float-at-requires-3
-float-at-requires-3 c κs = search needs
-
-add-float-at-3 : tie.Need-add-float-at-3
-add-float-at-3 c = search needs
-
-float-at-requires-4 : tie.Need-float-at-requires-4
-float-at-requires-4 c κs = search needs
-
-add-float-at-4 : tie.Need-add-float-at-4
-add-float-at-4 c = search needs
-
-float-at-requires-5 : tie.Need-float-at-requires-5
-float-at-requires-5 c κs = search needs
-
-add-float-at-5 : tie.Need-add-float-at-5
-add-float-at-5 c = search needs
-
-float-at-requires-6 : tie.Need-float-at-requires-6
-float-at-requires-6 c κs = search needs
-
-add-float-at-6 : tie.Need-add-float-at-6
-add-float-at-6 c = search needs
-
-float-at-requires-7 : tie.Need-float-at-requires-7
-float-at-requires-7 c κs = search needs
-
-add-float-at-7 : tie.Need-add-float-at-7
-add-float-at-7 c = search needs
-
-float-at-requires-8 : tie.Need-float-at-requires-8
-float-at-requires-8 c κs = search needs
-
 returns : tie.Need-returns
 unfolding eightAt
 returns c = rw (c .before .before .before .before .before .before .before .float-at .ensures, c .before .before .before .before .before .before .float-at2 .ensures, c .before .before .before .before .before .float-at3 .ensures, c .before .before .before .before .float-at4 .ensures, c .before .before .before .float-at5 .ensures, c .before .before .float-at6 .ensures, c .before .float-at7 .ensures, c .float-at8 .ensures)
@@ -56,19 +11,6 @@ pub eight-at-spec : {M : Type 1} → statement M
 eight-at-spec =
     tie.close
     (tie.spec
-    float-at-requires
-    add-float-at
-    float-at-requires-2
-    add-float-at-2
-    float-at-requires-3
-    add-float-at-3
-    float-at-requires-4
-    add-float-at-4
-    float-at-requires-5
-    add-float-at-5
-    float-at-requires-6
-    add-float-at-6
-    float-at-requires-7
-    add-float-at-7
-    float-at-requires-8
-    returns)
+    (λ c κs. search needs) (λ c. search needs) (λ c κs. search needs) (λ c. search needs) (λ c κs. search needs)
+    (λ c. search needs) (λ c κs. search needs) (λ c. search needs) (λ c κs. search needs) (λ c. search needs)
+    (λ c κs. search needs) (λ c. search needs) (λ c κs. search needs) (λ c. search needs) (λ c κs. search needs) returns)

@@ -6,18 +6,9 @@ use borrow.Author.Needs.{needs}
 use Rattle.draw_layouts.proofs.read_settings.Statement.{statement}
 use Rattle.draw_layouts.proofs.read_settings.Tie as tie
 
-new-requires : tie.Need-new-requires
-new-requires c κs = search needs
-
 returns : tie.Need-returns
 unfolding readSettings
 returns c = no _ (ne-eqb _ _ (c .before .if1 .taken)) (rw (c .new .ensures))
-
-are-codes-known-requires : tie.Need-are-codes-known-requires
-are-codes-known-requires c κs = search needs
-
-state-at-requires : tie.Need-state-at-requires
-state-at-requires c κs = search needs
 
 returns-2 : tie.Need-returns-2
 unfolding readSettings
@@ -25,4 +16,5 @@ returns-2 c = yes _ (eq-eqb _ _ (c .before .before .if1 .left)) (rw (c .before .
 
 pub read-settings-spec : {M : Type 1} → statement M
 read-settings-spec =
-    tie.close (tie.spec new-requires returns are-codes-known-requires state-at-requires returns-2)
+    tie.close (tie.spec
+    (λ c κs. search needs) returns (λ c κs. search needs) (λ c κs. search needs) returns-2)

@@ -5,27 +5,9 @@ use borrow.Author.Needs.{needs}
 use Rattle.draw_layouts.proofs.read_units.Statement.{statement}
 use Rattle.draw_layouts.proofs.read_units.Tie as tie
 
-new-requires : tie.Need-new-requires
-new-requires c κs = search needs
-
 returns : tie.Need-returns
 unfolding readUnits
 returns c = no _ (ne-eqb _ _ (c .before .if1 .taken)) (rw (c .new .ensures))
-
-unit-at-requires : tie.Need-unit-at-requires
-unit-at-requires c κs = search needs
-
-unit-at-requires-2 : tie.Need-unit-at-requires-2
-unit-at-requires-2 c κs = search needs
-
-unit-at-requires-3 : tie.Need-unit-at-requires-3
-unit-at-requires-3 c κs = search needs
-
-unit-at-requires-4 : tie.Need-unit-at-requires-4
-unit-at-requires-4 c κs = search needs
-
-are-four-known-requires : tie.Need-are-four-known-requires
-are-four-known-requires c κs = search needs
 
 returns-2 : tie.Need-returns-2
 unfolding readUnits
@@ -35,11 +17,5 @@ pub read-units-spec : {M : Type 1} → statement M
 read-units-spec =
     tie.close
     (tie.spec
-    new-requires
-    returns
-    unit-at-requires
-    unit-at-requires-2
-    unit-at-requires-3
-    unit-at-requires-4
-    are-four-known-requires
-    returns-2)
+    (λ c κs. search needs) returns (λ c κs. search needs) (λ c κs. search needs) (λ c κs. search needs)
+    (λ c κs. search needs) (λ c κs. search needs) returns-2)

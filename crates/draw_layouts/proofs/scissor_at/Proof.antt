@@ -10,24 +10,9 @@ use borrow.Author.Needs.{needs}
 use Rattle.draw_layouts.proofs.scissor_at.Statement.{statement}
 use Rattle.draw_layouts.proofs.scissor_at.Tie as tie
 
-word-at-requires : tie.Need-word-at-requires
-word-at-requires c κs = search needs
-
 returns : tie.Need-returns
 unfolding scissorOf
 returns c = yes _ (ap (λ (v : ℕ). eqb v 0) (sym (c .before .word-at .ensures)) ∙ eq-eqb _ _ (c .if1 .taken)) refl
-
-signed-at-requires : tie.Need-signed-at-requires
-signed-at-requires c κs = search needs
-
-signed-at-requires-2 : tie.Need-signed-at-requires-2
-signed-at-requires-2 c κs = search needs
-
-signed-at-requires-3 : tie.Need-signed-at-requires-3
-signed-at-requires-3 c κs = search needs
-
-signed-at-requires-4 : tie.Need-signed-at-requires-4
-signed-at-requires-4 c κs = search needs
 
 returns-2 : tie.Need-returns-2
 unfolding scissorOf
@@ -37,10 +22,5 @@ pub scissor-at-spec : {M : Type 1} → statement M
 scissor-at-spec =
     tie.close
     (tie.spec
-    word-at-requires
-    returns
-    signed-at-requires
-    signed-at-requires-2
-    signed-at-requires-3
-    signed-at-requires-4
-    returns-2)
+    (λ c κs. search needs) returns (λ c κs. search needs) (λ c κs. search needs) (λ c κs. search needs)
+    (λ c κs. search needs) returns-2)

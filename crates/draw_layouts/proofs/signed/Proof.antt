@@ -5,17 +5,8 @@ use borrow.Author.Needs.{needs}
 use Rattle.draw_layouts.proofs.signed.Statement.{statement}
 use Rattle.draw_layouts.proofs.signed.Tie as tie
 
-cast-result : tie.Need-cast-result
-cast-result c = search needs
-
 returns : tie.Need-returns
 returns c = low _ (c .if1 .taken)
-
-sub-result : tie.Need-sub-result
-sub-result c = search needs
-
-cast-result-2 : tie.Need-cast-result-2
-cast-result-2 c = search needs
 
 sub-result-2 : tie.Need-sub-result-2
 sub-result-2 c = minus-fits (4294967295 - c .before .args .n) (omega (arith, c .if1 .left))
@@ -25,4 +16,5 @@ returns-2 c = high _ (c .if1 .left)
 
 pub signed-spec : {M : Type 1} → statement M
 signed-spec =
-    tie.close (tie.spec cast-result returns sub-result cast-result-2 sub-result-2 returns-2)
+    tie.close (tie.spec
+    (λ c. search needs) returns (λ c. search needs) (λ c. search needs) sub-result-2 returns-2)

@@ -6,12 +6,6 @@ use borrow.Author.Needs.{needs}
 use Rattle.draw_layouts.proofs.stage_or.Statement.{statement}
 use Rattle.draw_layouts.proofs.stage_or.Tie as tie
 
-mul-stage-at : tie.Need-mul-stage-at
-mul-stage-at c = search needs
-
-stage-at-requires : tie.Need-stage-at-requires
-stage-at-requires c κs = search needs
-
 returns : tie.Need-returns
 unfolding stageOr
 returns c = yes _ (lt-ltb _ _ (c .before .if1 .taken)) (c .stage-at .ensures)
@@ -21,4 +15,5 @@ unfolding stageOr
 returns-2 c = no _ (le-ltb _ _ (c .if1 .left)) refl
 
 pub stage-or-spec : {M : Type 1} → statement M
-stage-or-spec = tie.close (tie.spec mul-stage-at stage-at-requires returns returns-2)
+stage-or-spec = tie.close (tie.spec
+    (λ c. search needs) (λ c κs. search needs) returns returns-2)

@@ -8,60 +8,6 @@ use borrow.Author.Needs.{needs}
 use Rattle.draw_layouts.proofs.state_at.Statement.{statement}
 use Rattle.draw_layouts.proofs.state_at.Tie as tie
 
-viewport-at-requires : tie.Need-viewport-at-requires
-viewport-at-requires c κs = search needs
-
-scissor-at-requires : tie.Need-scissor-at-requires
-scissor-at-requires c κs = search needs
-
-word-at-requires : tie.Need-word-at-requires
-word-at-requires c κs = search needs
-
-compare-or-requires : tie.Need-compare-or-requires
-compare-or-requires c κs = search needs
-
-word-at-requires-2 : tie.Need-word-at-requires-2
-word-at-requires-2 c κs = search needs
-
-compare-or-requires-2 : tie.Need-compare-or-requires-2
-compare-or-requires-2 c κs = search needs
-
-word-at-requires-3 : tie.Need-word-at-requires-3
-word-at-requires-3 c κs = search needs
-
-factor-or-requires : tie.Need-factor-or-requires
-factor-or-requires c κs = search needs
-
-word-at-requires-4 : tie.Need-word-at-requires-4
-word-at-requires-4 c κs = search needs
-
-factor-or-requires-2 : tie.Need-factor-or-requires-2
-factor-or-requires-2 c κs = search needs
-
-word-at-requires-5 : tie.Need-word-at-requires-5
-word-at-requires-5 c κs = search needs
-
-cull-of-requires : tie.Need-cull-of-requires
-cull-of-requires c κs = search needs
-
-word-at-requires-6 : tie.Need-word-at-requires-6
-word-at-requires-6 c κs = search needs
-
-face-of-requires : tie.Need-face-of-requires
-face-of-requires c κs = search needs
-
-mask-at-requires : tie.Need-mask-at-requires
-mask-at-requires c κs = search needs
-
-word-at-requires-7 : tie.Need-word-at-requires-7
-word-at-requires-7 c κs = search needs
-
-fog-of-requires : tie.Need-fog-of-requires
-fog-of-requires c κs = search needs
-
-color-at-requires : tie.Need-color-at-requires
-color-at-requires c κs = search needs
-
 float-at-requires : tie.Need-float-at-requires
 float-at-requires c κs = omega (arith, c .before .before .before .before .before .before .before .before .before .before .before .before .before .before .before .before .before .before .before .pre)
 
@@ -130,34 +76,9 @@ pub state-at-spec : {M : Type 1} → statement M
 state-at-spec =
     tie.close
     (tie.spec
-    viewport-at-requires
-    scissor-at-requires
-    word-at-requires
-    compare-or-requires
-    word-at-requires-2
-    compare-or-requires-2
-    word-at-requires-3
-    factor-or-requires
-    word-at-requires-4
-    factor-or-requires-2
-    word-at-requires-5
-    cull-of-requires
-    word-at-requires-6
-    face-of-requires
-    mask-at-requires
-    word-at-requires-7
-    fog-of-requires
-    color-at-requires
-    float-at-requires
-    float-at-requires-2
-    switch-at-requires
-    switch-at-requires-2
-    switch-at-requires-3
-    float-at-requires-3
-    switch-at-requires-4
-    switch-at-requires-5
-    float-at-requires-4
-    float-at-requires-5
-    float-at-requires-6
-    switch-at-requires-6
-    returns)
+    (λ c κs. search needs) (λ c κs. search needs) (λ c κs. search needs) (λ c κs. search needs) (λ c κs. search needs)
+    (λ c κs. search needs) (λ c κs. search needs) (λ c κs. search needs) (λ c κs. search needs) (λ c κs. search needs)
+    (λ c κs. search needs) (λ c κs. search needs) (λ c κs. search needs) (λ c κs. search needs) (λ c κs. search needs)
+    (λ c κs. search needs) (λ c κs. search needs) (λ c κs. search needs) float-at-requires float-at-requires-2
+    switch-at-requires switch-at-requires-2 switch-at-requires-3 float-at-requires-3 switch-at-requires-4
+    switch-at-requires-5 float-at-requires-4 float-at-requires-5 float-at-requires-6 switch-at-requires-6 returns)

@@ -9,21 +9,6 @@ use borrow.Author.Needs.{needs}
 use Rattle.draw_layouts.proofs.unit_at.Statement.{statement}
 use Rattle.draw_layouts.proofs.unit_at.Tie as tie
 
-add-end : tie.Need-add-end
-add-end c = search needs
-
-sub-read-record : tie.Need-sub-read-record
-sub-read-record c = search needs
-
-part-read-record-start : tie.Need-part-read-record-start
-part-read-record-start c = search needs
-
-part-read-record-end : tie.Need-part-read-record-end
-part-read-record-end c = search needs
-
-read-record-requires : tie.Need-read-record-requires
-read-record-requires c κs = search needs
-
 returns : tie.Need-returns
 unfolding readUnit
 returns c =
@@ -35,9 +20,4 @@ pub unit-at-spec : {M : Type 1} → statement M
 unit-at-spec =
     tie.close
     (tie.spec
-    add-end
-    sub-read-record
-    part-read-record-start
-    part-read-record-end
-    read-record-requires
-    returns)
+    (λ c. search needs) (λ c. search needs) (λ c. search needs) (λ c. search needs) (λ c κs. search needs) returns)

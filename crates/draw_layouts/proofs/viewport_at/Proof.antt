@@ -4,18 +4,6 @@ use borrow.Author.Needs.{needs}
 use Rattle.draw_layouts.proofs.viewport_at.Statement.{statement}
 use Rattle.draw_layouts.proofs.viewport_at.Tie as tie
 
-signed-at-requires : tie.Need-signed-at-requires
-signed-at-requires c κs = search needs
-
-signed-at-requires-2 : tie.Need-signed-at-requires-2
-signed-at-requires-2 c κs = search needs
-
-signed-at-requires-3 : tie.Need-signed-at-requires-3
-signed-at-requires-3 c κs = search needs
-
-signed-at-requires-4 : tie.Need-signed-at-requires-4
-signed-at-requires-4 c κs = search needs
-
 returns : tie.Need-returns
 unfolding viewportOf
 returns c = λ t. record { x = back-at _ _ _ (c .before .before .before .signed-at .ensures) t; y = back-at _ _ _ (c .before .before .signed-at2 .ensures) t; width = back-at _ _ _ (c .before .signed-at3 .ensures) t; height = back-at _ _ _ (c .signed-at4 .ensures) t }
@@ -24,8 +12,4 @@ pub viewport-at-spec : {M : Type 1} → statement M
 viewport-at-spec =
     tie.close
     (tie.spec
-    signed-at-requires
-    signed-at-requires-2
-    signed-at-requires-3
-    signed-at-requires-4
-    returns)
+    (λ c κs. search needs) (λ c κs. search needs) (λ c κs. search needs) (λ c κs. search needs) returns)

@@ -5,23 +5,8 @@ use borrow.Author.Needs.{needs}
 use Rattle.draw.proofs.plain.draw_triangle.Statement.{statement}
 use Rattle.draw.proofs.plain.draw_triangle.Tie as tie
 
-check-requires : tie.Need-check-requires
-check-requires c κs = search needs
-
-enum-known-why : tie.Need-enum-known-why
-enum-known-why c = search needs
-
-enum-told : tie.Need-enum-told
-enum-told c = search needs
-
 draw-checked-requires : tie.Need-draw-checked-requires
 draw-checked-requires c κs = checked-target (c .before .before .before .before .before .before .before .args .width) (c .before .before .before .before .before .before .before .args .height) _ _ (c .before .before .before .before .before .before .before .args .state) (c .before .before .before .before .before .before .before .args .a) (c .before .before .before .before .before .before .before .args .b) (c .before .before .before .before .before .before .before .args .c) (sym (c .before .before .before .before .check .ensures) ∙ ap numberOf (c .before .before .enum-told .given .1))
-
-same-length : tie.Need-same-length
-same-length c = search needs
-
-same-length-2 : tie.Need-same-length-2
-same-length-2 c = search needs
 
 returns : tie.Need-returns
 returns c = drew-unstaged (c .before .before .before .before .before .before .before .before .before .before .before .before .args .width) (c .before .before .before .before .before .before .before .before .before .before .before .before .args .height) (c .before .before .before .before .before .before .before .before .before .before .before .before .args .state) (c .before .before .before .before .before .before .before .before .before .before .before .before .args .a) (c .before .before .before .before .before .before .before .before .before .before .before .before .args .b) (c .before .before .before .before .before .before .before .before .before .before .before .before .args .c) _ _ (sym (c .before .before .before .before .before .before .before .before .before .check .ensures) ∙ ap numberOf (c .before .before .before .before .before .before .before .enum-told .given .1)) (c .before .before .before .before .draw-checked .ensures)
@@ -33,11 +18,5 @@ pub draw-triangle-spec : {M : Type 1} → statement M
 draw-triangle-spec =
     tie.close
     (tie.spec
-    check-requires
-    enum-known-why
-    enum-told
-    draw-checked-requires
-    same-length
-    same-length-2
-    returns
-    returns-2)
+    (λ c κs. search needs) (λ c. search needs) (λ c. search needs) draw-checked-requires (λ c. search needs)
+    (λ c. search needs) returns returns-2)

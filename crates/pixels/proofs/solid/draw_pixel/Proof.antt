@@ -10,65 +10,20 @@ use borrow.Author.Needs.{needs}
 use Rattle.pixels.proofs.solid.draw_pixel.Statement.{statement}
 use Rattle.pixels.proofs.solid.draw_pixel.Tie as tie
 
-weights-at-requires : tie.Need-weights-at-requires
-weights-at-requires c κs = search needs
-
-is-covered-requires : tie.Need-is-covered-requires
-is-covered-requires c κs = search needs
-
 returns : tie.Need-returns
 returns c = not-covered [] (drawing (c .before .before .before .before .before .args .state) [] 0 []) (c .before .before .before .before .before .args .t) (c .before .before .before .before .before .args .width) (c .before .before .before .before .before .args .py) (c .before .before .before .before .before .args .px) _ _ _ (was-not (c .before .is-covered .ensures ∙ rw (c .before .before .weights-at .ensures)) (c .if1 .taken))
-
-mul-i : tie.Need-mul-i
-mul-i c = search needs
-
-add-i : tie.Need-add-i
-add-i c = search needs
-
-depth-at-requires : tie.Need-depth-at-requires
-depth-at-requires c κs = search needs
-
-mul-depth-passes : tie.Need-mul-depth-passes
-mul-depth-passes c = search needs
-
-slice-read-depth-passes : tie.Need-slice-read-depth-passes
-slice-read-depth-passes c = search needs
-
-depth-passes-requires : tie.Need-depth-passes-requires
-depth-passes-requires c κs = search needs
 
 returns-2 : tie.Need-returns-2
 returns-2 c = dropped [] (drawing (c .before .before .before .before .before .before .before .before .before .args .state) [] 0 []) (c .before .before .before .before .before .before .before .before .before .args .t) (c .before .before .before .before .before .before .before .before .before .args .width) (c .before .before .before .before .before .before .before .before .before .args .py) (c .before .before .before .before .before .before .before .before .before .args .px) _ _ _ (was-so (c .before .before .before .before .before .is-covered .ensures ∙ rw (c .before .before .before .before .before .before .weights-at .ensures)) (c .before .before .before .before .if1 .left)) (sym (depth-fails [] (drawing (c .before .before .before .before .before .before .before .before .before .args .state) [] 0 []) (c .before .before .before .before .before .before .before .before .before .args .t) (weightsOf (c .before .before .before .before .before .before .before .before .before .args .t .raster) (c .before .before .before .before .before .before .before .before .before .args .px) (c .before .before .before .before .before .before .before .before .before .args .py)) _ (was-not (c .before .depth-passes .ensures ∙ rw (c .before .before .before .depth-at .ensures, c .before .before .before .before .before .before .weights-at .ensures)) (c .if2 .taken))))
 
-inv-w-at-requires : tie.Need-inv-w-at-requires
-inv-w-at-requires c κs = search needs
-
-is-usable-requires : tie.Need-is-usable-requires
-is-usable-requires c κs = search needs
-
 returns-3 : tie.Need-returns-3
 returns-3 c = dropped [] (drawing (c .before .before .before .before .before .before .before .before .before .before .before .before .args .state) [] 0 []) (c .before .before .before .before .before .before .before .before .before .before .before .before .args .t) (c .before .before .before .before .before .before .before .before .before .before .before .before .args .width) (c .before .before .before .before .before .before .before .before .before .before .before .before .args .py) (c .before .before .before .before .before .before .before .before .before .before .before .before .args .px) _ _ _ (was-so (c .before .before .before .before .before .before .before .before .is-covered .ensures ∙ rw (c .before .before .before .before .before .before .before .before .before .weights-at .ensures)) (c .before .before .before .before .before .before .before .if1 .left)) (sym (unusable [] (drawing (c .before .before .before .before .before .before .before .before .before .before .before .before .args .state) [] 0 []) (c .before .before .before .before .before .before .before .before .before .before .before .before .args .t) (weightsOf (c .before .before .before .before .before .before .before .before .before .before .before .before .args .t .raster) (c .before .before .before .before .before .before .before .before .before .before .before .before .args .px) (c .before .before .before .before .before .before .before .before .before .before .before .before .args .py)) _ (was-so (c .before .before .before .before .depth-passes .ensures ∙ rw (c .before .before .before .before .before .before .depth-at .ensures, c .before .before .before .before .before .before .before .before .before .weights-at .ensures)) (c .before .before .before .if2 .left)) (was-not (c .before .is-usable .ensures ∙ rw (c .before .before .inv-w-at .ensures, c .before .before .before .before .before .before .before .before .before .weights-at .ensures)) (c .if3 .taken))))
-
-mul-put-bytes : tie.Need-mul-put-bytes
-mul-put-bytes c = search needs
-
-put-bytes-requires : tie.Need-put-bytes-requires
-put-bytes-requires c κs = search needs
-
-color-at-requires : tie.Need-color-at-requires
-color-at-requires c κs = search needs
 
 write-depth-requires : tie.Need-write-depth-requires
 write-depth-requires c κs = omega (arith, c .before .before .before .before .before .before .before .before .before .before .before .before .before .before .before .before .before .before .before .before .before .pre .1 .1)
 
 add-result : tie.Need-add-result
 add-result c = omega (arith, c .before .before .before .before .before .before .before .before .before .before .before .before .before .before .before .before .before .before .before .before .before .before .before .before .pre .1 .0 .3)
-
-same-length : tie.Need-same-length
-same-length c = search needs
-
-same-length-2 : tie.Need-same-length-2
-same-length-2 c = search needs
 
 returns-4 : tie.Need-returns-4
 returns-4 c = rw (c .before .before .before .before .before .before .before .put-bytes .ensures, c .before .before .write-depth .ensures, c .before .before .before .color-at .ensures, c .before .before .before .before .before .before .before .before .before .before .before .before .before .before .before .before .before .before .depth-at .ensures, c .before .before .before .before .before .before .before .before .before .before .before .before .before .before .before .before .before .before .before .before .before .weights-at .ensures, c .before .before .before .before .before .before .before .before .before .before .before .before .before .before .before .before .before .before .before .before .before .before .before .before .pre .0 .1) (solid-kept (c .before .before .before .before .before .before .before .before .before .before .before .before .before .before .before .before .before .before .before .before .before .before .before .before .args .state) (c .before .before .before .before .before .before .before .before .before .before .before .before .before .before .before .before .before .before .before .before .before .before .before .before .args .t) (c .before .before .before .before .before .before .before .before .before .before .before .before .before .before .before .before .before .before .before .before .before .before .before .before .args .width) (c .before .before .before .before .before .before .before .before .before .before .before .before .before .before .before .before .before .before .before .before .before .before .before .before .args .py) (c .before .before .before .before .before .before .before .before .before .before .before .before .before .before .before .before .before .before .before .before .before .before .before .before .args .px) _ _ _ (c .before .before .before .before .before .before .before .before .before .before .before .before .before .before .before .before .before .before .before .before .before .before .before .before .pre .0 .0) (was-so (c .before .before .before .before .before .before .before .before .before .before .before .before .before .before .before .before .before .before .before .before .is-covered .ensures ∙ rw (c .before .before .before .before .before .before .before .before .before .before .before .before .before .before .before .before .before .before .before .before .before .weights-at .ensures)) (c .before .before .before .before .before .before .before .before .before .before .before .before .before .before .before .before .before .before .before .if1 .left)) (was-so (c .before .before .before .before .before .before .before .before .before .before .before .before .before .before .before .before .depth-passes .ensures ∙ rw (c .before .before .before .before .before .before .before .before .before .before .before .before .before .before .before .before .before .before .depth-at .ensures, c .before .before .before .before .before .before .before .before .before .before .before .before .before .before .before .before .before .before .before .before .before .weights-at .ensures)) (c .before .before .before .before .before .before .before .before .before .before .before .before .before .before .before .if2 .left)) (was-so (c .before .before .before .before .before .before .before .before .before .before .before .before .before .is-usable .ensures ∙ rw (c .before .before .before .before .before .before .before .before .before .before .before .before .before .before .inv-w-at .ensures, c .before .before .before .before .before .before .before .before .before .before .before .before .before .before .before .before .before .before .before .before .before .weights-at .ensures)) (c .before .before .before .before .before .before .before .before .before .before .before .before .if3 .left)))
@@ -77,24 +32,7 @@ pub draw-pixel-spec : {M : Type 1} → statement M
 draw-pixel-spec =
     tie.close
     (tie.spec
-    weights-at-requires
-    is-covered-requires
-    returns
-    mul-i
-    add-i
-    depth-at-requires
-    mul-depth-passes
-    slice-read-depth-passes
-    depth-passes-requires
-    returns-2
-    inv-w-at-requires
-    is-usable-requires
-    returns-3
-    mul-put-bytes
-    put-bytes-requires
-    color-at-requires
-    write-depth-requires
-    add-result
-    same-length
-    same-length-2
-    returns-4)
+    (λ c κs. search needs) (λ c κs. search needs) returns (λ c. search needs) (λ c. search needs) (λ c κs. search needs)
+    (λ c. search needs) (λ c. search needs) (λ c κs. search needs) returns-2 (λ c κs. search needs) (λ c κs. search needs)
+    returns-3 (λ c. search needs) (λ c κs. search needs) (λ c κs. search needs) write-depth-requires add-result
+    (λ c. search needs) (λ c. search needs) returns-4)

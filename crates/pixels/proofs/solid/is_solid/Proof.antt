@@ -21,13 +21,11 @@ returns-4 : tie.Need-returns-4
 unfolding solidOf
 returns-4 c = no _ (c .before .before .before .if1 .left) (no _ (c .before .before .if2 .left) (no _ (c .before .if3 .left) (yes _ (c .if4 .taken) refl)))
 
-are-all-on-requires : tie.Need-are-all-on-requires
-are-all-on-requires c κs = search needs
-
 returns-5 : tie.Need-returns-5
 unfolding solidOf
 returns-5 c = no _ (c .before .before .before .before .before .if1 .left) (no _ (c .before .before .before .before .if2 .left) (no _ (c .before .before .before .if3 .left) (no _ (c .before .before .if4 .left) (c .are-all-on .ensures))))
 
 pub is-solid-spec : {M : Type 1} → statement M
 is-solid-spec =
-    tie.close (tie.spec returns returns-2 returns-3 returns-4 are-all-on-requires returns-5)
+    tie.close (tie.spec
+    returns returns-2 returns-3 returns-4 (λ c κs. search needs) returns-5)

@@ -8,34 +8,13 @@ use borrow.Author.Needs.{needs}
 use Rattle.raster.proofs.plain.raster_clipped.Statement.{statement}
 use Rattle.raster.proofs.plain.raster_clipped.Tie as tie
 
-setup-triangle-requires : tie.Need-setup-triangle-requires
-setup-triangle-requires c κs = search needs
-
-enum-known-raster : tie.Need-enum-known-raster
-enum-known-raster c = search needs
-
-enum-told : tie.Need-enum-told
-enum-told c = search needs
-
 returns : tie.Need-returns
 returns c = (nothing-drawn [] (drawing (c .before .before .before .before .before .before .args .state) [] 0 []) (c .before .before .before .before .before .before .args .view) (c .before .before .before .before .before .before .args .within) (c .before .before .before .before .before .before .args .width) (c .before .before .before .before .before .before .args .a) (c .before .before .before .before .before .before .args .b) (c .before .before .before .before .before .before .args .c) _ (sym (c .before .before .setup-triangle .ensures) ∙ c .enum-told .given .1), omega arith)
-
-primitive-requires : tie.Need-primitive-requires
-primitive-requires c κs = search needs
-
-is-solid-requires : tie.Need-is-solid-requires
-is-solid-requires c κs = search needs
 
 fill-requires : tie.Need-fill-requires
 fill-requires c κs =
     let w = setup-within _ _ _ _ (c .before .before .before .before .before .before .before .before .before .before .before .before .before .args .within) _ _ _ (sym (c .before .before .before .before .before .before .before .before .before .setup-triangle .ensures) ∙ c .before .before .before .before .before .before .before .raster .given .1) in
     (sym (c .before .before .before .is-solid .ensures) ∙ c .before .before .if1 .taken, ((omega (arith, c .before .before .before .before .before .before .before .before .before .before .before .before .before .pre, w .x-to), omega (arith, c .before .before .before .before .before .before .before .before .before .before .before .before .before .pre, w .y-to), omega (arith, c .before .before .before .before .before .before .before .before .before .before .before .before .before .pre), omega (arith, c .before .before .before .before .before .before .before .before .before .before .before .before .before .pre)), (omega (arith, c .before .before .before .before .before .before .before .before .before .before .before .before .before .pre, mul-le-mul-right (c .before .before .before .before .before .before .before .before .before .before .before .before .before .args .width) (w .y-to)), omega (arith, c .before .before .before .before .before .before .before .before .before .before .before .before .before .pre))))
-
-same-length : tie.Need-same-length
-same-length c = search needs
-
-same-length-2 : tie.Need-same-length-2
-same-length-2 c = search needs
 
 returns-2 : tie.Need-returns-2
 returns-2 c = (c .before .before .before .before .fill .ensures .0 ∙ rw (c .before .before .before .before .before .before .before .before .before .primitive .ensures) (filled [] (drawing (c .before .before .before .before .before .before .before .before .before .before .before .before .before .before .before .before .before .before .args .state) [] 0 []) (c .before .before .before .before .before .before .before .before .before .before .before .before .before .before .before .before .before .before .args .view) (c .before .before .before .before .before .before .before .before .before .before .before .before .before .before .before .before .before .before .args .within) (c .before .before .before .before .before .before .before .before .before .before .before .before .before .before .before .before .before .before .args .width) (c .before .before .before .before .before .before .before .before .before .before .before .before .before .before .before .before .before .before .args .a) (c .before .before .before .before .before .before .before .before .before .before .before .before .before .before .before .before .before .before .args .b) (c .before .before .before .before .before .before .before .before .before .before .before .before .before .before .before .before .before .before .args .c) _ (sym (c .before .before .before .before .before .before .before .before .before .before .before .before .before .before .setup-triangle .ensures) ∙ c .before .before .before .before .before .before .before .before .before .before .before .before .raster .given .1)), c .before .before .before .before .fill .ensures .1)
@@ -45,12 +24,6 @@ fill-requires-2 c κs =
     let w = setup-within _ _ _ _ (c .before .before .before .before .before .before .before .before .before .before .before .before .before .args .within) _ _ _ (sym (c .before .before .before .before .before .before .before .before .before .setup-triangle .ensures) ∙ c .before .before .before .before .before .before .before .raster .given .1) in
     ((omega (arith, c .before .before .before .before .before .before .before .before .before .before .before .before .before .pre, w .x-to), omega (arith, c .before .before .before .before .before .before .before .before .before .before .before .before .before .pre, w .y-to), omega (arith, c .before .before .before .before .before .before .before .before .before .before .before .before .before .pre), omega (arith, c .before .before .before .before .before .before .before .before .before .before .before .before .before .pre)), (omega (arith, c .before .before .before .before .before .before .before .before .before .before .before .before .before .pre, mul-le-mul-right (c .before .before .before .before .before .before .before .before .before .before .before .before .before .args .width) (w .y-to)), omega (arith, c .before .before .before .before .before .before .before .before .before .before .before .before .before .pre)))
 
-same-length-3 : tie.Need-same-length-3
-same-length-3 c = search needs
-
-same-length-4 : tie.Need-same-length-4
-same-length-4 c = search needs
-
 returns-3 : tie.Need-returns-3
 returns-3 c = (c .before .before .before .before .fill2 .ensures .0 ∙ rw (c .before .before .before .before .before .before .before .before .before .primitive .ensures) (filled [] (drawing (c .before .before .before .before .before .before .before .before .before .before .before .before .before .before .before .before .before .before .args .state) [] 0 []) (c .before .before .before .before .before .before .before .before .before .before .before .before .before .before .before .before .before .before .args .view) (c .before .before .before .before .before .before .before .before .before .before .before .before .before .before .before .before .before .before .args .within) (c .before .before .before .before .before .before .before .before .before .before .before .before .before .before .before .before .before .before .args .width) (c .before .before .before .before .before .before .before .before .before .before .before .before .before .before .before .before .before .before .args .a) (c .before .before .before .before .before .before .before .before .before .before .before .before .before .before .before .before .before .before .args .b) (c .before .before .before .before .before .before .before .before .before .before .before .before .before .before .before .before .before .before .args .c) _ (sym (c .before .before .before .before .before .before .before .before .before .before .before .before .before .before .setup-triangle .ensures) ∙ c .before .before .before .before .before .before .before .before .before .before .before .before .raster .given .1)), c .before .before .before .before .fill2 .ensures .1)
 
@@ -58,17 +31,6 @@ pub raster-clipped-spec : {M : Type 1} → statement M
 raster-clipped-spec =
     tie.close
     (tie.spec
-    setup-triangle-requires
-    enum-known-raster
-    enum-told
-    returns
-    primitive-requires
-    is-solid-requires
-    fill-requires
-    same-length
-    same-length-2
-    returns-2
-    fill-requires-2
-    same-length-3
-    same-length-4
+    (λ c κs. search needs) (λ c. search needs) (λ c. search needs) returns (λ c κs. search needs) (λ c κs. search needs)
+    fill-requires (λ c. search needs) (λ c. search needs) returns-2 fill-requires-2 (λ c. search needs) (λ c. search needs)
     returns-3)

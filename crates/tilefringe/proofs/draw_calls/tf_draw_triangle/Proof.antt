@@ -5,47 +5,11 @@ use borrow.Author.Needs.{needs}
 use Rattle.tilefringe.proofs.draw_calls.tf_draw_triangle.Statement.{statement}
 use Rattle.tilefringe.proofs.draw_calls.tf_draw_triangle.Tie as tie
 
-draw-plain-requires : tie.Need-draw-plain-requires
-draw-plain-requires c κs = search needs
-
-same-length : tie.Need-same-length
-same-length c = search needs
-
-same-length-2 : tie.Need-same-length-2
-same-length-2 c = search needs
-
 returns : tie.Need-returns
 returns c = c .before .before .before .before .draw-plain .ensures ∙ plain-call (c .before .before .before .before .before .before .before .before .before .before .before .before .before .before .before .args .width) (c .before .before .before .before .before .before .before .before .before .before .before .before .before .before .before .args .height) (c .before .before .before .before .before .before .before .before .before .before .before .before .before .before .before .args .units .now) (c .before .before .before .before .before .before .before .before .before .before .before .before .before .before .before .args .settings .now) (c .before .before .before .before .before .before .before .before .before .before .before .before .before .before .before .args .vertices .now) (c .before .before .before .before .before .before .before .before .before .before .before .before .before .before .before .args .colors .now) (c .before .before .before .before .before .before .before .before .before .before .before .before .before .before .before .args .depths .now) (c .before .before .before .before .before .before .before .before .before .before .before .before .before .before .before .args .store .now) (c .before .before .before .before .before .before .before .before .before .before .before .before .before .before .before .args .stages .now) (c .before .before .before .before .before .before .before .if1 .taken)
 
-read-units-requires : tie.Need-read-units-requires
-read-units-requires c κs = search needs
-
-read-settings-requires : tie.Need-read-settings-requires
-read-settings-requires c κs = search needs
-
-read-stages-requires : tie.Need-read-stages-requires
-read-stages-requires c κs = search needs
-
-read-vertices-requires : tie.Need-read-vertices-requires
-read-vertices-requires c κs = search needs
-
-are-four-known-requires : tie.Need-are-four-known-requires
-are-four-known-requires c κs = search needs
-
 returns-2 : tie.Need-returns-2
 returns-2 c = faulted (c .before .before .before .before .before .before .before .before .before .before .before .before .before .before .args .store .now) (c .before .before .before .before .before .before .before .before .before .before .before .before .before .before .args .width) (c .before .before .before .before .before .before .before .before .before .before .before .before .before .before .args .height) (c .before .before .before .before .before .before .before .before .before .before .before .before .before .before .args .units .now) (c .before .before .before .before .before .before .before .before .before .before .before .before .before .before .args .settings .now) (c .before .before .before .before .before .before .before .before .before .before .before .before .before .before .args .stages .now) (c .before .before .before .before .before .before .before .before .before .before .before .before .before .before .args .vertices .now) (c .before .before .before .before .before .before .before .before .before .before .before .before .before .before .args .colors .now) (c .before .before .before .before .before .before .before .before .before .before .before .before .before .before .args .depths .now) (c .before .before .before .before .before .read-units .result) (c .before .before .before .before .read-settings .result) (c .before .before .before .read-stages .result) (c .before .before .read-vertices .result) (c .before .before .before .before .before .read-units .ensures) (c .before .before .before .before .read-settings .ensures) (c .before .before .before .read-stages .ensures) (c .before .before .read-vertices .ensures) (c .before .are-four-known .result) (c .before .are-four-known .ensures) (c .if2 .taken)
-
-draw-triangle-requires : tie.Need-draw-triangle-requires
-draw-triangle-requires c κs = search needs
-
-draw-number-requires : tie.Need-draw-number-requires
-draw-number-requires c κs = search needs
-
-same-length-3 : tie.Need-same-length-3
-same-length-3 c = search needs
-
-same-length-4 : tie.Need-same-length-4
-same-length-4 c = search needs
 
 returns-3 : tie.Need-returns-3
 returns-3 c = drawn (c .before .before .before .before .before .before .before .before .before .before .before .before .before .before .before .before .before .before .before .before .before .before .before .before .before .before .before .before .args .store .now) (c .before .before .before .before .before .before .before .before .before .before .before .before .before .before .before .before .before .before .before .before .before .before .before .before .before .before .before .before .args .width) (c .before .before .before .before .before .before .before .before .before .before .before .before .before .before .before .before .before .before .before .before .before .before .before .before .before .before .before .before .args .height) (c .before .before .before .before .before .before .before .before .before .before .before .before .before .before .before .before .before .before .before .before .before .before .before .before .before .before .before .before .args .units .now) (c .before .before .before .before .before .before .before .before .before .before .before .before .before .before .before .before .before .before .before .before .before .before .before .before .before .before .before .before .args .settings .now) (c .before .before .before .before .before .before .before .before .before .before .before .before .before .before .before .before .before .before .before .before .before .before .before .before .before .before .before .before .args .stages .now) (c .before .before .before .before .before .before .before .before .before .before .before .before .before .before .before .before .before .before .before .before .before .before .before .before .before .before .before .before .args .vertices .now) (c .before .before .before .before .before .before .before .before .before .before .before .before .before .before .before .before .before .before .before .before .before .before .before .before .before .before .before .before .args .colors .now) (c .before .before .before .before .before .before .before .before .before .before .before .before .before .before .before .before .before .before .before .before .before .before .before .before .before .before .before .before .args .depths .now) (c .before .before .before .before .before .before .before .before .before .before .before .before .before .before .before .before .before .before .before .read-units .result) (c .before .before .before .before .before .before .before .before .before .before .before .before .before .before .before .before .before .before .read-settings .result) (c .before .before .before .before .before .before .before .before .before .before .before .before .before .before .before .before .before .read-stages .result) (c .before .before .before .before .before .before .before .before .before .before .before .before .before .before .before .before .read-vertices .result) (c .before .before .before .before .before .before .before .before .before .before .before .before .before .before .before .before .before .before .before .read-units .ensures) (c .before .before .before .before .before .before .before .before .before .before .before .before .before .before .before .before .before .before .read-settings .ensures) (c .before .before .before .before .before .before .before .before .before .before .before .before .before .before .before .before .before .read-stages .ensures) (c .before .before .before .before .before .before .before .before .before .before .before .before .before .before .before .before .read-vertices .ensures) (c .before .before .before .before .before .before .before .before .before .before .before .before .before .before .before .are-four-known .result) (c .before .before .before .before .before .before .before .before .before .before .before .before .before .before .before .are-four-known .ensures) (c .draw-number .result) (answerOf (c .before .before .before .before .before .draw-triangle .result)) (c .before .before .before .before .before .draw-triangle .last .0) (c .before .before .before .before .before .draw-triangle .last .1 .0) (c .before .before .before .before .before .before .before .before .before .before .before .before .before .before .if2 .left) (c .draw-number .ensures) (c .before .before .before .before .before .draw-triangle .ensures)
@@ -54,18 +18,6 @@ pub tf-draw-triangle-spec : {M : Type 1} → statement M
 tf-draw-triangle-spec =
     tie.close
     (tie.spec
-    draw-plain-requires
-    same-length
-    same-length-2
-    returns
-    read-units-requires
-    read-settings-requires
-    read-stages-requires
-    read-vertices-requires
-    are-four-known-requires
-    returns-2
-    draw-triangle-requires
-    draw-number-requires
-    same-length-3
-    same-length-4
-    returns-3)
+    (λ c κs. search needs) (λ c. search needs) (λ c. search needs) returns (λ c κs. search needs) (λ c κs. search needs)
+    (λ c κs. search needs) (λ c κs. search needs) (λ c κs. search needs) returns-2 (λ c κs. search needs)
+    (λ c κs. search needs) (λ c. search needs) (λ c. search needs) returns-3)
