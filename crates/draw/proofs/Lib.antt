@@ -1,4 +1,2 @@
-pub mod Below
-pub mod Alls
 pub mod Passed
 pub mod Unstaged

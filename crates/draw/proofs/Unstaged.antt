@@ -9,16 +9,16 @@ use lib.ListN.{length}
 use lib.Ieee.{Float}
 use Rattle.lists.specs.Lists.{iter, flat, tab, between}
 use borrow.Author.Tests.{eqb-true}
-use Rattle.lists.proofs.Choice.{was-true, no}
+use Rattle.lists.proofs.Choice.{no}
 use Rattle.answers.specs.declared.Refusal.{Refusal}
 use Rattle.answers.specs.Numbers.{refusalNumber}
-use Rattle.answers.proofs.Answered.{refused-test, refused-pos}
+use Rattle.answers.proofs.Answered.{refused-test}
 use Rattle.levels.specs.declared.Texture.{Texture}
 use Rattle.settings.specs.declared.TextureStage.{TextureStage}
 use Rattle.settings.specs.declared.PipelineState.{PipelineState}
 use Rattle.scissor.specs.declared.Bounds.{Bounds}
 use Rattle.scissor.specs.declared.Bounds.the-variants.{Empty, Box}
-use Rattle.scissor.specs.Check.{targetFits, scissorFits}
+use Rattle.scissor.specs.Check.{targetFits}
 use Rattle.scissor.specs.Scissor.{boundsOf}
 use Rattle.setup.specs.declared.PixelBox.{PixelBox}
 use Rattle.setup.specs.declared.Setup.{Setup}
@@ -33,11 +33,11 @@ use Rattle.stages.specs.Stages.{stagesColor, stagesAddresses}
 use Rattle.coverage.specs.declared.Primitive.{Primitive}
 use Rattle.pixels.specs.Way.{drawing, drawnTo, shadedOf, fragmentOf, fragAt, pixelOf}
 use Rattle.raster.specs.Fill.{primitiveOf, rowOf, fillOf, fillBy, setupFor, rasterOf, leftDrawn, inBoundsDrawn, drawnOf}
-use Rattle.draw.specs.Checks.{allBelow, viewportFits, stateFits, fogFits, stagesFit, recordsFit, verticesFit, earlyCheck, lateCheck}
-use Rattle.draw.proofs.Passed.{some, early-target}
+use Rattle.draw_checks.specs.Checks.{allBelow, stagesFit, recordsFit, verticesFit, earlyCheck, lateCheck}
+use Rattle.draw_checks.proofs.Passed.{early-target}
 use Rattle.draw.specs.Draw.{DrawArgs, drawArgs, boundAt, boundTo, drawCheck, drawPassed, outcome, drewAll, drawOf}
 
-zero-first : (n m : ℕ) → cond (eqb n 0) m n ≡ 0 → n ≡ 0
+pub zero-first : (n m : ℕ) → cond (eqb n 0) m n ≡ 0 → n ≡ 0
 zero-first n m e = go (eqb n 0) refl
   where
     go : (b : Bool) → eqb n 0 ≡ b → n ≡ 0
@@ -80,31 +80,6 @@ module _ (s : PipelineState) (store : List ℕ) (stages : List TextureStage) (xs
 -- ---- the checks
 
 module _ (width height colors depths : ℕ) (s : PipelineState) where
-  -- past 1, 2, 3, 4 and 7 there is 6 alone
-  pub early-rest : (stages : List TextureStage) (n : ℕ) → earlyCheck width height colors depths s [] 0 ≡ 0 → cond (stagesFit stages n) 0 6 ≡ earlyCheck width height colors depths s stages n
-  unfolding earlyCheck
-  early-rest stages n e =
-      let a = was-true (targetFits width height colors depths) e (some 1 refl) in
-      let b = was-true (scissorFits (s .scissor)) (a .1) (some 2 refl) in
-      let c = was-true (viewportFits (s .viewport)) (b .1) (some 3 refl) in
-      let d = was-true (stateFits s) (c .1) (some 4 refl) in
-      let f = was-true (fogFits s) (d .1) (some 7 refl) in
-      rw (a .0, b .0, c .0, d .0, f .0)
-
-  through : (b : Bool) {x y k : ℕ} (z : ℕ) → (x ≡ k → y ≡ k) → cond b x z ≡ k → cond b y z ≡ k
-  through true z f e = f e
-  through false z f e = e
-
-  -- and one of them refuses whatever the stages are
-  pub early-refused : (stages : List TextureStage) (n : ℕ) (why : Refusal) → refusalNumber why ≡ earlyCheck width height colors depths s [] 0 → refusalNumber why ≡ earlyCheck width height colors depths s stages n
-  unfolding earlyCheck stagesFit allBelow
-  early-refused stages n why e =
-      sym (through (targetFits width height colors depths) 1
-      (through (scissorFits (s .scissor)) 2
-      (through (viewportFits (s .viewport)) 3
-      (through (stateFits s) 4
-      (through (fogFits s) 7 (λ z. absurd (omega (arith, refused-pos why, z))))))) (sym e))
-
   module _ (a b c : Vertex) where
     pub check-vertices : earlyCheck width height colors depths s [] 0 ≡ 0 → cond (verticesFit a b c) 0 5 ≡ drawCheck width height colors depths 0 (drawArgs s [] 0 a b c) []
     unfolding drawCheck lateCheck recordsFit allBelow

@@ -19,7 +19,7 @@ use Rattle.pixels.specs.Way.{Drawing, drawing, drawnTo}
 use Rattle.raster.specs.Fill.{drawnOf}
 use Rattle.draw.specs.declared.DrawAnswer.{DrawAnswer}
 use Rattle.draw.specs.declared.DrawAnswer.the-variants as D
-use Rattle.draw.specs.Checks.{earlyCheck, lateCheck}
+use Rattle.draw_checks.specs.Checks.{earlyCheck, lateCheck}
 
 -- what a draw is handed beside the target, the store and the records
 pub record DrawArgs : Type 0 where

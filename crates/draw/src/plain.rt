@@ -29,8 +29,9 @@ fn check(
 ) -> Answer
     ensures { λ r. ⌜ numberOf r ≡ drawCheck width height colors depths 0 (drawArgs state [] 0 a b c) [] ⌝ }
 {
-    let Answer::Refused(why) = crate::check_settings(width, height, colors, depths, state) else {
-        if !crate::vertices_fit(a, b, c) {
+    let Answer::Refused(why) = draw_checks::check_settings(width, height, colors, depths, state)
+    else {
+        if !draw_checks::vertices_fit(a, b, c) {
             return Answer::Refused(Refusal::Vertex);
         }
         return Answer::Done;
@@ -61,7 +62,7 @@ fn draw_checked(
         return 0;
     };
     let view = screen::view_of(viewport, height);
-    raster::plain::draw_left(
+    plain_raster::draw_left(
         colors,
         depths,
         state,

@@ -20,9 +20,9 @@ use Rattle.frames.specs.State.{Place, sizes, pixel, byte, texture, refused}
 use Rattle.frames.proofs.Fragments.{in-either}
 use Rattle.stages.specs.Stages.{stageAt, textureAt, noTexture}
 use Rattle.pixels.specs.Way.{drawnTo}
-use Rattle.draw.specs.Checks.{viewportFits, stateFits, fogFits, stageFits, stagesFit, earlyCheck}
+use Rattle.draw_checks.specs.Checks.{viewportFits, stateFits, fogFits, stageFits, stagesFit, earlyCheck}
 use Rattle.draw.specs.Draw.{boundAt, boundTo, drawCheck, drawPassed, drawOf, drewAll, outcome}
-use Rattle.draw.proofs.Below.{below-at}
+use Rattle.draw_checks.proofs.Below.{below-at}
 use Rattle.draw_reads.specs.Items.{drawItems}
 use Rattle.draw_reads.specs.Takes.{Takes}
 use Rattle.draw_reads.proofs.Takes.{takes, takes-in}

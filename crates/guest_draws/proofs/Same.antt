@@ -8,7 +8,7 @@ use Rattle.scissor.specs.Check.{targetFits}
 use Rattle.frames.specs.State.{Answer, drew, refused}
 use Rattle.frames.specs.Gather.{Drawn}
 use Rattle.pixels.specs.Way.{pixelOf, drawnTo}
-use Rattle.draw.specs.Checks.{earlyCheck}
+use Rattle.draw_checks.specs.Checks.{earlyCheck}
 use Rattle.draw.specs.Draw.{Outcome, outcome, drewAll, drawCheck, drawPassed, drawOf}
 use Rattle.draw_reads.proofs.Taken.{items-local}
 use Rattle.draw_reads.proofs.Runs.{draw-runs, items-within}

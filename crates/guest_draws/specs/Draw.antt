@@ -18,7 +18,7 @@ use Rattle.frames.specs.Gather.{Drawn, drawn}
 use Rattle.stages.specs.Stages.{stageAt}
 use Rattle.pixels.specs.Way as Way
 use Rattle.pixels.specs.Way.{Drawing}
-use Rattle.draw.specs.Checks.{earlyCheck, lateCheck}
+use Rattle.draw_checks.specs.Checks.{earlyCheck, lateCheck}
 use Rattle.draw.specs.Draw.{DrawArgs, boundTo, drawCheck, drawOf}
 use Rattle.draw_reads.specs.Items.{Item, drawItems, itemsWork}
 use Rattle.guests.specs.Calls.{Shared}

@@ -1,3 +1,2 @@
 pub mod Fragments
 pub mod Pixels
-pub mod Solids

@@ -1,6 +1,4 @@
 // The pixel's way (raster.rs, raster_clipped): weights, depth test, 1/w, colour, stages, alpha test, fog, blend, masked colour, depth, count.
-pub mod plain;
-pub mod solid;
 
 ghost use mathlib.Core.Path.{_≡_};
 ghost use Prim.Native.Nat.{_+_, _*_, _<_, _≤_};
@@ -27,7 +25,7 @@ pub enum Fragment {
     Kept(f32, Rgba),
 }
 
-fn fog_depth_at(p: PerCorner, t: Primitive) -> f32
+pub fn fog_depth_at(p: PerCorner, t: Primitive) -> f32
     ensures { λ r. ⌜ r ≡ sumOf p (perCorner (t .a .«fog_depth») (t .b .«fog_depth») (t .c .«fog_depth»)) ⌝ }
 {
     gradients::weighted_sum(
@@ -41,7 +39,7 @@ fn fog_depth_at(p: PerCorner, t: Primitive) -> f32
 }
 
 // Past the stages: the alpha test, then fog.
-fn finish(state: PipelineState, z: f32, fog_depth: f32, c: Rgba) -> Fragment
+pub fn finish(state: PipelineState, z: f32, fog_depth: f32, c: Rgba) -> Fragment
     ensures { λ r. ⌜ r ≡ finished state z «fog_depth» c ⌝ }
 {
     if !fragment::alpha_passes(state, c.a) {
@@ -91,7 +89,7 @@ pub fn fragment_at(
 }
 
 // A colour blended over the pixel's bytes from k on. Its channels come one by one, so that they stay in registers.
-fn blended(
+pub fn blended(
     colors: &[u8],
     k: usize,
     src_factor: BlendFactor,
@@ -123,7 +121,7 @@ fn write_color(colors: &mut [u8], i: usize, state: PipelineState, z: f32, c: Rgb
     fragment::put_color(colors, i * 4, mask, c);
 }
 
-fn write_depth(depths: &mut [f32], i: usize, state: PipelineState, z: f32, c: Rgba)
+pub fn write_depth(depths: &mut [f32], i: usize, state: PipelineState, z: f32, c: Rgba)
     requires { ⌜ i < length (now depths) ⌝ }
     ensures { λ _. ⌜ now (depths .exit) ≡ set (now (depths .entry)) i (writtenOf state z c (pixelAt [] (now (depths .entry)) i) .depth) ⌝ }
 {

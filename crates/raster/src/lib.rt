@@ -1,6 +1,4 @@
 // Filling the triangles that clipping leaves (raster.rs, raster_clipped and draw_triangle past its checks).
-pub mod plain;
-mod solid;
 
 ghost use mathlib.Core.Path.{_≡_};
 ghost use Prim.Native.Nat.{_+_, _*_, _-_, _<_, _≤_};
@@ -23,7 +21,7 @@ use setup::Raster;
 use setup::Setup;
 use vertices::Vertex;
 
-fn primitive(r: Raster, a: Vertex, b: Vertex, c: Vertex) -> Primitive
+pub fn primitive(r: Raster, a: Vertex, b: Vertex, c: Vertex) -> Primitive
     ensures { λ t. ⌜ t ≡ primitiveOf r a b c ⌝ }
 {
     let derivatives = gradients::derivatives(

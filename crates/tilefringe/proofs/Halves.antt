@@ -15,9 +15,10 @@ use Rattle.scissor.specs.Check.{targetFits}
 use Rattle.scissor.proofs.Outcome.{target-is}
 use Rattle.frames.specs.State.{Answer, refused, cost}
 use Rattle.pixels.specs.Way.{drawing}
-use Rattle.draw.specs.Checks.{earlyCheck, lateCheck}
+use Rattle.draw_checks.specs.Checks.{earlyCheck, lateCheck}
 use Rattle.draw.specs.Draw.{DrawArgs, Outcome, outcome, drewAll, boundTo, drawCheck, drawPassed, drawOf}
-use Rattle.draw.proofs.Passed.{early-target}
+use Rattle.draw_checks.proofs.Passed.{early-target}
+use Rattle.draw.proofs.Unstaged.{zero-first}
 use Rattle.draw_reads.proofs.Few.{count-few}
 use Rattle.draw_layouts.specs.Units.{readUnits}
 use Rattle.draw_layouts.specs.Settings.{readSettings}
@@ -29,13 +30,6 @@ use Rattle.tilefringe.specs.DrawCalls.{called, drawNumber, refusedBy, ca
 abbrev ToldApart : ℕ → Answer → Type 0
 ToldApart n a = (n / 4294967296 ≡ refusedBy a) × (n % 4294967296 ≡ cost a)
 
-first-number : (a b : ℕ) → eqb (cond (eqb a 0) b a) 0 ≡ true → a ≡ 0
-first-number a b e = go (eqb a 0) refl e
-  where
-    go : (y : Bool) → eqb a 0 ≡ y → eqb (cond y b a) 0 ≡ true → a ≡ 0
-    go true p k = eqb-true a 0 p
-    go false p k = absurd (true≢false (sym k ∙ p))
-
 module _ (store : List ℕ) (width height : ℕ) (x : DrawArgs) (units : List Texture) (cs : List ℕ) (ds : List Float) where
   abbrev number : ℕ
   number = drawCheck width height (length cs) (length ds) (length store) x units
@@ -44,8 +38,8 @@ module _ (store : List ℕ) (width height : ℕ) (x : DrawArgs) (units : List Te
   unfolding drawCheck
   fits e =
       early-target width height (length cs) (length ds) (x .state) (x .stages) (x .count)
-      (first-number (earlyCheck width height (length cs) (length ds) (x .state) (x .stages) (x .count))
-      (lateCheck (length store) (x .count) (boundTo (x .stages) (x .count) units) (x .a) (x .b) (x .c)) e)
+      (zero-first (earlyCheck width height (length cs) (length ds) (x .state) (x .stages) (x .count))
+      (lateCheck (length store) (x .count) (boundTo (x .stages) (x .count) units) (x .a) (x .b) (x .c)) (eqb-true _ 0 e))
 
   -- at most 40 x 4,096 x 4,096 pixel writes
   count-fits : eqb number 0 ≡ true → drawPassed store width height x units cs ds .count < 4294967296

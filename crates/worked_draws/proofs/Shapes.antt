@@ -10,7 +10,7 @@ use Rattle.screen.specs.Screen.{wFits, ndcFits, divides, viewportDraws, viewOf,
 use Rattle.setup.specs.Box.{leastOf, greatestOf, startOf, endOf, coveredOf}
 use Rattle.setup.specs.Setup.{onScreen, setupOf}
 use Rattle.raster.specs.Fill.{primitiveOf, rowOf, fillOf, setupFor, rasterOf, leftDrawn, drawnOf}
-use Rattle.draw.specs.Checks.{allBelow, viewportFits, colorFits, stateFits, fogFits, stageFits, stagesFit, recordsFit, vertexFits, verticesFit, earlyCheck, lateCheck}
+use Rattle.draw_checks.specs.Checks.{allBelow, viewportFits, colorFits, stateFits, fogFits, stageFits, stagesFit, recordsFit, vertexFits, verticesFit, earlyCheck, lateCheck}
 use Rattle.draw.specs.Draw.{boundTo, drawCheck, drawPassed, drawOf}
 
 unfoldable pub shapes : Unit {0}

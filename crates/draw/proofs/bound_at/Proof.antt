@@ -2,7 +2,7 @@ use mathlib.Core.Path.{refl, _∙_}
 use native.Mathlib.Omega.{arith}
 use borrow.Author.Tests.{lt-ltb, le-ltb}
 use Rattle.lists.proofs.Choice.{yes, no}
-use Rattle.draw.proofs.Passed.{unit-below}
+use Rattle.draw_checks.proofs.Passed.{unit-below}
 use borrow.Author.Needs.{needs}
 use Rattle.draw.proofs.bound_at.Statement.{statement}
 use Rattle.draw.proofs.bound_at.Tie as tie

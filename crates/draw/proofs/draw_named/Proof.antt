@@ -1,6 +1,7 @@
 use mathlib.Core.Path.{sym, ap, _∙_}
 use Rattle.answers.specs.Numbers.{numberOf}
-use Rattle.draw.proofs.Passed.{early-target, early-stages, stages-few, stages-fit, late-records, refused-late, drew-it}
+use Rattle.draw_checks.proofs.Passed.{early-target, early-stages, stages-few, stages-fit, late-records}
+use Rattle.draw.proofs.Passed.{refused-late, drew-it}
 use borrow.Author.Needs.{needs}
 use Rattle.draw.proofs.draw_named.Statement.{statement}
 use Rattle.draw.proofs.draw_named.Tie as tie

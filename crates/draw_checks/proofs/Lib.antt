@@ -1,0 +1,4 @@
+pub mod Below
+pub mod Alls
+pub mod Passed
+pub mod Early
