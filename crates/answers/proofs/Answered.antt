@@ -1,14 +1,13 @@
 -- A refusal's number is never that of done. Assumes nothing.
 use Prim.Native.Nat.{ℕ, _<_}
-use mathlib.Core.Path.{_≡_, refl, sym, _∙_}
-use mathlib.Core.Bool.{Bool, true, false}
+use mathlib.Core.Path.{_≡_, sym}
+use mathlib.Core.Bool.{true, false}
 use native.Mathlib.Omega.{arith}
 use lib.Dec.{eqb}
 use borrow.Author.Tests.{eq-eqb, ne-eqb}
 use Rattle.answers.specs.declared.Refusal.{Refusal}
 use Rattle.answers.specs.declared.Refusal.the-variants.{Target, Scissor, Viewport, Float, Vertex, Stage, FogCurve, Record, Side, Place, Bytes, Level, Rectangle, Format, Output, Code}
-use Rattle.answers.specs.declared.Answer.the-variants.{Done, Refused}
-use Rattle.answers.specs.Numbers.{refusalNumber, numberOf}
+use Rattle.answers.specs.Numbers.{refusalNumber}
 
 pub refused-pos : (why : Refusal) → 0 < refusalNumber why
 refused-pos Target = omega arith

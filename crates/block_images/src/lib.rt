@@ -3,9 +3,8 @@ use blocks::*;
 ghost use mathlib.Core.Path.{_≡_};
 ghost use Prim.Native.Nat.{_+_, _*_, _/_, _%_, _≤_, _<_};
 ghost use lib.ListN.{length};
-ghost use Rattle.lists.specs.Lists.{iter};
 ghost use Rattle.blocks.specs.Blocks.{blockBytes, texelOf, texelFrom, blockTexel};
-ghost use Rattle.block_images.specs.Walk.{blocksOver, blockImage, putTexel, putNth, putBlock, putRow, putRows, InImage};
+ghost use Rattle.block_images.specs.Walk.{blocksOver, blockImage, putTexel, putBlock, putRow, putRows, InImage};
 
 // The blocks that cover a side.
 pub fn block_count(side: usize) -> usize

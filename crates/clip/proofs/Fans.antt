@@ -1,6 +1,6 @@
 -- The triangles left by clipping: how a loop runs over a fan, how many there are, and that a triangle wholly inside is left whole. Assumes nothing.
 use Prim.Native.Nat.{ℕ, zero, suc, _+_, _-_, _<_, _≤_}
-use mathlib.Core.Path.{_≡_, refl, sym, ap, _∙_}
+use mathlib.Core.Path.{_≡_, refl, sym, _∙_}
 use mathlib.Core.Bool.{Bool, true, false, cond}
 use mathlib.Core.List.{List, [], _∷_}
 use lib.Ieee.{Float}
@@ -9,7 +9,6 @@ use lib.Seq.{drop-cons}
 use native.Mathlib.Numerals.{add-one}
 use native.Mathlib.Decide.{decLt}
 use native.Mathlib.Omega.{arith}
-use borrow.Author.Tests.{eq-eqb, le-ltb}
 use Rattle.lists.specs.Lists.{turns, between}
 use Rattle.lists.proofs.Turns.{between-more, between-done}
 use Rattle.lists.proofs.Choice.{was-true, true-false}

@@ -3,19 +3,19 @@ use mathlib.Core.Bool.{Bool, true, false, cond, not, Bool·beq}
 use mathlib.Core.Path.{_≡_, refl, sym, ap, _∙_}
 use mathlib.Core.List.{List, [], _∷_, _++_}
 use Prim.Native.Nat.{ℕ, zero, suc, _+_, _-_, _*_, _/_, _%_, _≤_, _<_}
-use native.Mathlib.Nat.{mod-eq-of-lt, mod-self, mod-lt}
+use native.Mathlib.Nat.{mod-eq-of-lt, mod-self}
 use native.Mathlib.Numerals.{add-one}
 use native.Mathlib.Decide.{decLt}
 use native.Mathlib.Omega.{arith}
 use lib.Dec.{eqb, ltb}
 use borrow.Author.Tests.{lt-ltb, le-ltb, eq-eqb, ne-eqb}
-use lib.ListN.{length, getD, take, drop, length-append, drop-of-length-le}
-use lib.Seq.{drop-cons, length-take-le, getD-take}
+use lib.ListN.{length, getD, drop, length-append, drop-of-length-le}
+use lib.Seq.{drop-cons}
 use Rattle.vertices.specs.declared.Vertex.{Vertex}
 use Rattle.floats.specs.Num.{_⊖_, _⊘_, zero32}
 use Rattle.vertices.specs.Vertex.{inside, distance, lerp}
 use lib.Ieee as Ieee
-use lib.Ieee.{Float, binary32}
+use lib.Ieee.{Float}
 use Rattle.clip.specs.Clip.{differ, cross, kept, crossing, headOr, walk, walked, one, insides, clipPlane, clipFrom, clipped}
 
 -- ---- the corner after corner i

@@ -1,12 +1,12 @@
 -- The loop over a polygon's edges: the corners put so far and what is left of the walk make the whole. Assumes nothing.
-use mathlib.Core.Path.{_≡_, refl, sym, ap, _∙_}
-use mathlib.Core.List.{List, [], _∷_, _++_, append-nil, append-assoc}
-use Prim.Native.Nat.{ℕ, _+_, _*_, _%_, _≤_, _<_}
+use mathlib.Core.Path.{_≡_, sym, ap, _∙_}
+use mathlib.Core.List.{List, _++_, append-nil, append-assoc}
+use Prim.Native.Nat.{ℕ, _+_, _%_, _≤_, _<_}
 use native.Mathlib.Nat.{mod-lt}
 use native.Mathlib.Omega.{arith}
 use lib.ListN.{length, getD, length-append, drop}
 use lib.Ieee.{Float}
-use mathlib.Core.Bool.{Bool, true, false}
+use mathlib.Core.Bool.{Bool}
 use Rattle.vertices.specs.declared.Vertex.{Vertex}
 use Rattle.vertices.specs.Vertex.{inside, past}
 use Rattle.polygon.specs.Corners.{vertexAt, cornersOf}

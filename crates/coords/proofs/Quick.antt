@@ -1,7 +1,7 @@
 -- The floor of an f32 between -2 ^ 22 and 2 ^ 22 as a whole number and as a float, by the last bits of a sum with 2 ^ 23. Assumes nothing.
-use Prim.Native.Nat.{ℕ, zero, suc, _+_, _-_, _*_, _/_, _%_, _^_, _≤_, _<_, min}
+use Prim.Native.Nat.{ℕ, zero, suc, _+_, _-_, _*_, _/_, _^_, _≤_, _<_, min}
 use mathlib.Core.Path.{_≡_, refl, sym, ap, subst, _∙_}
-use mathlib.Core.Bool.{Bool, true, false, cond, not, _&&_}
+use mathlib.Core.Bool.{Bool, true, false, not, _&&_}
 use lib.Dec.{T, lit≤, eqb}
 use lib.IntN.{ℤ, pos, negsuc, negℤ}
 use lib.Ieee.{Float, nan, inf, fin, up, down, lt, eq, neg, add, sub, round, ofBits, ofInt, inFloat, toUnsigned, toSigned, binary32}
@@ -15,7 +15,6 @@ use native.Mathlib.Omega.{arith}
 use borrow.Author.Tests.{ltb-true, eqb-true, eqb-false, le-leb, lt-ltb}
 use Rattle.lists.proofs.Choice.{true-false}
 use Rattle.floats.proofs.Cut.{two-to}
-use Rattle.floats.proofs.Signs.{nought}
 use Rattle.rounding.specs.Rounding.{upDiv, wholeBy, floorOf}
 use Rattle.rounding.proofs.Near.{big, less, Summed, summed, summedTo}
 use Rattle.rounding.proofs.Kept.{up-is, up-exact, neg-round}

@@ -1,9 +1,8 @@
 -- A side from its bits, and which floats are small. Assumes nothing.
-use Prim.Native.Nat.{ℕ, _+_, _-_, _*_, _^_, _≤_, _<_}
+use Prim.Native.Nat.{ℕ, _+_, _-_, _*_, _^_, _≤_}
 use mathlib.Core.Path.{_≡_, refl, sym, ap, _∙_}
 use mathlib.Core.Bool.{Bool, true, false, cond, not}
 use lib.Dec.{T}
-use lib.IntN.{pos}
 use lib.Ieee.{Float, lt, neg, sub, round, ofBits, ofInt, nanBits, binary32}
 use lib.Ieee.Back.{round-whole}
 use lib.Ieee.Bits.{ofBits-toBits}

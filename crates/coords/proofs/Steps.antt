@@ -2,7 +2,7 @@
 use Prim.Native.Nat.{ℕ, zero, suc, _+_, _-_, _*_, _/_, _%_, _^_, _≤_, _<_, min}
 use mathlib.Core.Path.{_≡_, refl, sym, ap, _∙_}
 use mathlib.Core.Logic.{_⊎_, inl, inr}
-use lib.IntN.{ℤ, pos, negsuc}
+use lib.IntN.{pos, negsuc}
 use lib.Arith.{digits-mod}
 use native.Mathlib.Nat.{mod-lt, mod-eq-of-lt, eq-or-lt-of-le, div-add-mod', suc-mul}
 use native.Mathlib.Omega.{arith}

@@ -1,6 +1,6 @@
 -- A whole number n or -1 - n brought into a side, as the code does it, and what a remainder is. Assumes nothing.
-use Prim.Native.Nat.{ℕ, zero, suc, _+_, _-_, _*_, _/_, _%_, _≤_, _<_, min}
-use mathlib.Core.Path.{_≡_, refl, sym, subst}
+use Prim.Native.Nat.{ℕ, suc, _+_, _-_, _*_, _/_, _%_, _<_, min}
+use mathlib.Core.Path.{_≡_, sym, subst}
 use mathlib.Core.Bool.{Bool, true, false, cond}
 use lib.IntN.{ℤ, pos, negsuc}
 use native.Mathlib.Nat.{mod-lt, div-add-mod', suc-mul}

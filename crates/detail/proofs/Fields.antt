@@ -1,16 +1,15 @@
 -- A finite f64 above 1, read from its bits: the exponent's field is 1023 or more, and the value is the digits, with the leading one, times a power of two.
 -- Assumes nothing.
 use Prim.Native.Nat.{ℕ, zero, suc, _+_, _-_, _*_, _/_, _%_, _^_, _≤_, _<_}
-use mathlib.Core.Path.{_≡_, refl, sym, ap, subst, subst₂, _∙_}
+use mathlib.Core.Path.{_≡_, sym, ap, subst, subst₂, _∙_}
 use mathlib.Core.Bool.{Bool, true, false, not, cond}
-use native.Mathlib.Nat.{mod-eq-of-lt, mod-lt, mul-one, one-mul, lt-of-lt-of-le, lt-of-le-of-lt, lt-of-not-le, le-of-suc-le-suc, le-trans, le-of-eq, not-le-of-lt, lt-of-mul-lt-mul-right, mul-right-comm, mul-comm, mul-lt-mul-of-pos-right, le-of-lt, add-comm}
+use native.Mathlib.Nat.{mod-eq-of-lt, mod-lt, mul-one, lt-of-lt-of-le, lt-of-not-le, le-of-suc-le-suc, not-le-of-lt, lt-of-mul-lt-mul-right, mul-comm, mul-lt-mul-of-pos-right, le-of-lt, add-comm}
 use native.Mathlib.Omega.{arith}
-use lib.IntN.{ℤ, pos}
-use lib.Dec.{T, leb, ltb, eqb, ltb→lt, nleb→lt, lit<, lit≤}
+use lib.IntN.{pos}
+use lib.Dec.{T, leb, ltb, eqb, ltb→lt, lit≤}
 use borrow.Author.Tests.{leb-false, lt-leb, le-ltb}
 use lib.Pow.{pow-pos, pow-mono, shl-lt}
 use lib.Ieee.{Float, nan, inf, fin, up, down, binary64, lt, odd, isNan, fits, ofFields, ofBits, toBits, nanBits}
-use lib.Ieee.Fits.{down-pos}
 use lib.Ieee.Exact.{HasValue, odd-sign}
 use lib.Ieee.Bits.{ofBits-toBits, nanBits-above}
 

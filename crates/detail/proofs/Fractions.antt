@@ -1,5 +1,5 @@
 -- Comparisons of floats above 0 as comparisons of fractions, and of their powers. Assumes nothing.
-use Prim.Native.Nat.{ℕ, suc, _+_, _*_, _^_, _≤_, _<_}
+use Prim.Native.Nat.{ℕ, _+_, _*_, _^_, _≤_, _<_}
 use mathlib.Core.Path.{_≡_, refl, sym, subst, subst₂}
 use mathlib.Core.Bool.{true, false}
 use native.Mathlib.Nat.{le-trans, mul-le-mul-right, mul-right-comm, one-mul, le-of-mul-le-mul-right, pow-le-pow-left, pow-lt-pow-left, one-le-pow}

@@ -1,7 +1,7 @@
 -- Every f64 of 1 or more is a multiple of 2 ^ -52, so a table's entry is the first f64 that reaches its power of two as soon as
 -- the multiple before it does not. Assumes nothing.
 use Prim.Native.Nat.{ℕ, zero, suc, _+_, _-_, _*_, _/_, _%_, _^_, _≤_, _<_}
-use mathlib.Core.Path.{_≡_, refl, sym, ap, subst, subst₂, _∙_}
+use mathlib.Core.Path.{_≡_, sym, ap, subst, subst₂, _∙_}
 use mathlib.Core.Bool.{Bool, true, false, _&&_}
 use mathlib.Core.List.{List}
 use native.Mathlib.Decide.{decLt}

@@ -1,15 +1,15 @@
 -- The largest n with 2 ^ n ≤ q ^ 128: it is `stepsOf`, and it follows from that of q's significand. Assumes nothing.
-use Prim.Native.Nat.{ℕ, suc, _+_, _-_, _*_, _/_, _%_, _^_, _≤_, _<_}
+use Prim.Native.Nat.{ℕ, suc, _+_, _-_, _*_, _/_, _^_, _≤_, _<_}
 use mathlib.Core.Path.{_≡_, refl, sym, ap, subst, subst₂, _∙_}
 use mathlib.Core.Bool.{false}
-use native.Mathlib.Nat.{le-of-mul-le-mul-right, lt-of-mul-lt-mul-right, eq-of-mul-eq-mul-right, mul-le-mul-right, mul-lt-mul-of-pos-right, mul-assoc, mul-comm, mul-right-comm, mul-one, add-mul, mul-pos, one-le-pow, le-div-iff-mul-le, div-lt-iff-lt-mul, lt-of-not-le, not-le-of-lt, lt-of-lt-of-le, pow-le-pow-left}
+use native.Mathlib.Nat.{le-of-mul-le-mul-right, lt-of-mul-lt-mul-right, eq-of-mul-eq-mul-right, mul-le-mul-right, mul-lt-mul-of-pos-right, mul-assoc, mul-right-comm, mul-one, add-mul, one-le-pow, le-div-iff-mul-le, div-lt-iff-lt-mul, lt-of-not-le, not-le-of-lt, lt-of-lt-of-le, pow-le-pow-left}
 use native.Mathlib.Omega.{arith}
 use lib.Dec.{T}
 use lib.Pow.{pow-pos, pow-mono, pow-add}
 use lib.Ieee.{Float, size}
 use lib.Ieee.Digits.{size-lt, size-le, size-reaches}
 use lib.Ieee.Exact.{HasValue}
-use lib.Ieee.Positive.{num, den, positive, den-pos, value→cross}
+use lib.Ieee.Positive.{num, den, den-pos, value→cross}
 use Rattle.detail.specs.Steps.{Largest, stepsOf}
 use Rattle.detail.proofs.Powers.{mul-pow, pow-pow}
 

@@ -1,13 +1,12 @@
 -- A draw without a stage: it is the same whatever its stages, records and texels are. Assumes nothing.
-use mathlib.Core.Path.{_≡_, refl, sym, ap, _∙_}
+use mathlib.Core.Path.{_≡_, refl, _∙_}
 use mathlib.Core.Bool.{Bool, true, false, cond}
-use mathlib.Core.List.{List, [], _∷_}
-use Prim.Native.Nat.{ℕ, zero, suc}
-use native.Mathlib.Omega.{arith}
-use lib.Dec.{eqb, leb}
+use mathlib.Core.List.{List, []}
+use Prim.Native.Nat.{ℕ, zero}
+use lib.Dec.{eqb}
 use lib.ListN.{length}
 use lib.Ieee.{Float}
-use Rattle.lists.specs.Lists.{iter, flat, tab, between}
+use Rattle.lists.specs.Lists.{iter, flat, between}
 use borrow.Author.Tests.{eqb-true}
 use Rattle.lists.proofs.Choice.{no}
 use Rattle.answers.specs.declared.Refusal.{Refusal}
@@ -35,7 +34,7 @@ use Rattle.pixels.specs.Way.{drawing, drawnTo, shadedOf, fragmentOf, fragAt, pi
 use Rattle.raster.specs.Fill.{primitiveOf, rowOf, fillOf, fillBy, setupFor, rasterOf, leftDrawn, inBoundsDrawn, drawnOf}
 use Rattle.draw_checks.specs.Checks.{allBelow, stagesFit, recordsFit, verticesFit, earlyCheck, lateCheck}
 use Rattle.draw_checks.proofs.Passed.{early-target}
-use Rattle.draw.specs.Draw.{DrawArgs, drawArgs, boundAt, boundTo, drawCheck, drawPassed, outcome, drewAll, drawOf}
+use Rattle.draw.specs.Draw.{drawArgs, boundTo, drawCheck, drawPassed, outcome, drewAll, drawOf}
 
 pub zero-first : (n m : ℕ) → cond (eqb n 0) m n ≡ 0 → n ≡ 0
 zero-first n m e = go (eqb n 0) refl

@@ -15,7 +15,7 @@ use Rattle.vertices.specs.declared.Vertex.{Vertex}
 use Rattle.frames.specs.State.{Answer, drew, refused}
 use Rattle.frames.specs.Gather.{Drawn}
 use Rattle.stages.specs.Stages.{stageAt, textureAt}
-use Rattle.pixels.specs.Way.{Drawing, drawing, drawnTo}
+use Rattle.pixels.specs.Way.{drawing, drawnTo}
 use Rattle.raster.specs.Fill.{drawnOf}
 use Rattle.draw.specs.declared.DrawAnswer.{DrawAnswer}
 use Rattle.draw.specs.declared.DrawAnswer.the-variants as D

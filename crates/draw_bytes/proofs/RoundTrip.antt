@@ -1,16 +1,15 @@
 -- What is written reads back the same. Assumes nothing.
-use mathlib.Core.Bool.{Bool, true, false, cond, not}
+use mathlib.Core.Bool.{Bool, true, false, not}
 use mathlib.Core.Path.{_≡_, refl, sym, ap, _∙_}
-use mathlib.Core.List.{List, [], _∷_}
-use Prim.Native.Nat.{ℕ, zero, suc, _+_, _-_, _*_, _%_, _^_, _≤_, _<_}
+use mathlib.Core.List.{List}
+use Prim.Native.Nat.{ℕ, zero, suc, _+_, _-_, _*_, _%_, _<_}
 use native.Mathlib.Nat.{add-zero}
 use native.Mathlib.Omega.{arith}
 use lib.Dec.{T, eqb, ltb}
 use lib.ListN.{length, getD}
 use lib.IntN.{ℤ, pos, negsuc}
-use lib.Signed.{mag}
 use lib.Ieee as Ieee
-use lib.Ieee.{Float, binary32, nan}
+use lib.Ieee.{Float, binary32}
 use lib.Ieee.Bits.{ofBits-toBits, toBits-lt}
 use mir.Syntax.{w32}
 use mir.Val.{SFits}
@@ -20,14 +19,12 @@ use Rattle.lists.proofs.Flats.{getD-flat}
 use Rattle.settings.specs.declared.TexEnvMode.{TexEnvMode}
 use Rattle.settings.specs.declared.TexEnvMode.the-variants.{Modulate, Replace, Decal, Blend, Add}
 use Rattle.settings.specs.declared.TextureStage.{TextureStage}
-use Rattle.vertices.specs.declared.Vertex.{Vertex}
 use Rattle.layouts.specs.Words.{word}
 use Rattle.layouts.proofs.RoundTrip.{digits}
-use Rattle.draw_layouts.specs.Numbers.{signedOf, signedAt, floatAt, switchAt, colorAt, fourAt, eightAt}
+use Rattle.draw_layouts.specs.Numbers.{signedOf, signedAt, floatAt, switchAt, colorAt}
 use Rattle.draw_layouts.specs.Codes.{envKnown, envOf}
 use Rattle.draw_layouts.specs.Stages.{readStage}
-use Rattle.draw_layouts.specs.Vertices.{readVertex}
-use Rattle.draw_bytes.specs.Write.{wordBytes, wordBytesAt, bytesOf, bitsOf, floatBits, switchWord, envCode, stageWords, vertexWords}
+use Rattle.draw_bytes.specs.Write.{wordBytes, wordBytesAt, bytesOf, bitsOf, floatBits, switchWord, envCode, stageWords}
 use Rattle.draw_bytes.proofs.Words.{length-word}
 
 -- ---- words

@@ -1,25 +1,21 @@
 -- Settings that are written read back the same. Assumes nothing.
-use mathlib.Core.Bool.{Bool, true, false, cond, not}
+use mathlib.Core.Bool.{true, not}
 use mathlib.Core.Path.{_≡_, refl, sym, ap, _∙_}
-use mathlib.Core.List.{List, [], _∷_}
-use Prim.Native.Nat.{ℕ, _+_, _*_, _%_, _<_}
+use Prim.Native.Nat.{ℕ, _*_, _%_, _<_}
 use native.Mathlib.Omega.{arith}
 use lib.Dec.{T, eqb}
 use lib.ListN.{length, getD}
-use lib.IntN.{ℤ, pos, negsuc}
 use lib.Ieee as Ieee
-use lib.Ieee.{Float, binary32}
+use lib.Ieee.{binary32}
 use mir.Syntax.{w32}
 use mir.Val.{SFits}
 use borrow.Author.Tests.{eq-eqb}
 use Rattle.lists.proofs.Choice.{yes, no}
 use Rattle.settings.specs.declared.CompareFunc.{CompareFunc}
 use Rattle.settings.specs.declared.CompareFunc.the-variants as C
-use Rattle.settings.specs.declared.ReadCompare.{ReadCompare}
 use Rattle.settings.specs.declared.ReadCompare.the-variants as RC
 use Rattle.settings.specs.declared.BlendFactor.{BlendFactor}
 use Rattle.settings.specs.declared.BlendFactor.the-variants as B
-use Rattle.settings.specs.declared.ReadFactor.{ReadFactor}
 use Rattle.settings.specs.declared.ReadFactor.the-variants as RF
 use Rattle.settings.specs.declared.CullMode.the-variants.{Front, Back, FrontAndBack}
 use Rattle.settings.specs.declared.Cull.{Cull}
@@ -34,11 +30,10 @@ use Rattle.settings.specs.declared.ScissorBox.{ScissorBox}
 use Rattle.settings.specs.declared.PipelineState.{PipelineState}
 use Rattle.settings.specs.Settings.{readCompare, readFactor}
 use Rattle.layouts.specs.Words.{word}
-use Rattle.draw_layouts.specs.declared.SettingsRead.{SettingsRead}
 use Rattle.draw_layouts.specs.Numbers.{colorAt}
 use Rattle.draw_layouts.specs.Codes.{compareKnown, compareOr, factorKnown, factorOr, cullKnown, cullOf, faceKnown, faceOf, fogKnown, fogOf}
 use Rattle.draw_layouts.specs.Settings.{viewportOf, scissorOf, maskOf, testsKnown, modesKnown, codesKnown, stateOf, readSettings}
-use Rattle.draw_bytes.specs.Write.{bytesOf, bitsOf, floatBits, switchWord, compareCode, factorCode, cullCode, faceCode, fogCode, isBoxed, numberWords, viewportWords, boxWords, settingsWords}
+use Rattle.draw_bytes.specs.Write.{bytesOf, switchWord, compareCode, factorCode, cullCode, faceCode, fogCode, isBoxed, numberWords, viewportWords, boxWords, settingsWords}
 use Rattle.draw_bytes.proofs.Words.{length-bytes}
 use Rattle.draw_bytes.proofs.RoundTrip.{word-back, signed-back, float-back, switch-back}
 

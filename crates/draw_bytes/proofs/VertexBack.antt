@@ -1,7 +1,7 @@
 -- A vertex that is written reads back the same. Assumes nothing.
-use mathlib.Core.Path.{_≡_, refl, sym, ap, _∙_}
+use mathlib.Core.Path.{_≡_, refl, _∙_}
 use mathlib.Core.List.{List, [], _∷_}
-use Prim.Native.Nat.{ℕ, suc, _+_, _*_, _<_}
+use Prim.Native.Nat.{ℕ, _<_}
 use native.Mathlib.Omega.{arith}
 use lib.Dec.{T}
 use lib.ListN.{length, getD}
@@ -10,7 +10,7 @@ use lib.Ieee.{Float, binary32, nan}
 use Rattle.vertices.specs.declared.Vertex.{Vertex}
 use Rattle.draw_layouts.specs.Numbers.{floatAt, fourAt, eightAt}
 use Rattle.draw_layouts.specs.Vertices.{readVertex}
-use Rattle.draw_bytes.specs.Write.{bytesOf, floatBits, vertexWords}
+use Rattle.draw_bytes.specs.Write.{bytesOf, vertexWords}
 use Rattle.draw_bytes.proofs.RoundTrip.{float-back}
 
 four-is : (l : List Float) → length l ≡ 4 → (getD l 0 nan ∷ getD l 1 nan ∷ getD l 2 nan ∷ getD l 3 nan ∷ []) ≡ l

@@ -1,6 +1,6 @@
 -- The byte layout of a draw's settings (docs/INTERFACE.md, "Draw"): 144 bytes.
 use Prim.Native.Nat.{ℕ}
-use mathlib.Core.Bool.{Bool, true, false, cond}
+use mathlib.Core.Bool.{Bool, false, cond}
 use mathlib.Core.List.{List}
 use lib.Dec.{eqb}
 use lib.ListN.{length}

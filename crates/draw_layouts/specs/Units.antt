@@ -1,6 +1,6 @@
 -- The byte layout of a draw's four texture records (docs/INTERFACE.md, "Draw"): 244 bytes each.
 use Prim.Native.Nat.{ℕ}
-use mathlib.Core.Bool.{Bool, true, false, cond}
+use mathlib.Core.Bool.{Bool, false, cond}
 use mathlib.Core.List.{List, [], _∷_}
 use lib.Dec.{eqb}
 use lib.ListN.{length, take, drop}

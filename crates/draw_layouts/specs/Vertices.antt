@@ -1,6 +1,6 @@
 -- The byte layout of a draw's three vertices (docs/INTERFACE.md, "Draw"): 68 bytes a vertex.
 use Prim.Native.Nat.{ℕ, _+_}
-use mathlib.Core.Bool.{Bool, true, false, cond}
+use mathlib.Core.Bool.{true, false, cond}
 use mathlib.Core.List.{List}
 use lib.Dec.{eqb}
 use lib.ListN.{length}

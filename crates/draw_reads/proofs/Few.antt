@@ -2,7 +2,7 @@
 use mathlib.Core.Path.{_≡_, refl, ap}
 use mathlib.Core.Bool.{Bool, true, false, cond}
 use mathlib.Core.Option.{Option, none, some}
-use mathlib.Core.List.{List, [], _∷_, _++_}
+use mathlib.Core.List.{List, [], _∷_}
 use Prim.Native.Nat.{ℕ, zero, suc, _+_, _-_, _*_, _≤_}
 use native.Mathlib.Nat.{mul-le-mul, mul-comm}
 use native.Mathlib.Omega.{arith}
@@ -21,7 +21,6 @@ use Rattle.screen.specs.Screen.{viewportDraws, viewOf}
 use Rattle.setup.specs.declared.PixelBox.{PixelBox}
 use Rattle.setup.specs.declared.Setup.{Setup}
 use Rattle.setup.specs.declared.Setup.the-variants.{Nothing, Draws}
-use Rattle.setup.proofs.Outcomes.{Within}
 use Rattle.coverage.specs.declared.Primitive.{Primitive}
 use Rattle.frames.specs.State.{Pixel}
 use Rattle.frames.specs.Fragments.{paint, spread, grid, shown}

@@ -1,6 +1,6 @@
 -- The colours as 5-6-5, two bytes a pixel, low byte first.
 use Prim.Native.Nat.{ℕ, _+_, _*_, _/_, _%_, min}
-use mathlib.Core.Bool.{Bool, cond}
+use mathlib.Core.Bool.{cond}
 use mathlib.Core.List.{List, [], _∷_, _++_}
 use lib.Dec.{eqb}
 use lib.ListN.{length, getD, drop}

@@ -1,7 +1,7 @@
 -- The steps of a fragment after its colour is interpolated: texture environments, the two tests, fog, blending, the masked write.
 -- Each sum and product is rounded once, in the order the Rust writes it.
 use Prim.Native.Nat.{ℕ, _+_}
-use mathlib.Core.Bool.{Bool, true, false, cond}
+use mathlib.Core.Bool.{Bool, true, cond}
 use mathlib.Core.List.{List}
 use lib.ListN.{getD, set}
 use lib.Ieee as Ieee

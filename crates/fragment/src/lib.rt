@@ -1,6 +1,6 @@
 // The steps of a fragment (raster.rs, raster_clipped and apply_tex_env): environments, tests, fog, blending, the masked write.
 ghost use mathlib.Core.Path.{_≡_};
-ghost use Prim.Native.Nat.{ℕ, _+_, _<_};
+ghost use Prim.Native.Nat.{_+_, _<_};
 ghost use lib.ListN.{length};
 ghost use Rattle.fragment.specs.Fragment.{unitsOf, modulateOf, decalOf, envBlendOf, addOf, envOf, texEnvOf};
 ghost use Rattle.fragment.specs.Fragment.{depthPasses, alphaPasses, linearFogOf, fogFactorOf, fogMixOf, foggedOf};

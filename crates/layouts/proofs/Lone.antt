@@ -2,15 +2,15 @@
 use mathlib.Core.Bool.{Bool, true, false, cond, not}
 use mathlib.Core.Path.{_≡_, refl, sym, ap, _∙_}
 use mathlib.Core.List.{List}
-use Prim.Native.Nat.{ℕ, suc, _+_, _*_, _≤_, _<_}
+use Prim.Native.Nat.{ℕ, suc, _*_, _<_}
 use native.Mathlib.Omega.{arith}
 use lib.Dec.{ltb, eqb}
 use lib.ListN.{length, getD, drop, List·getD-eq-default}
-use borrow.Author.Tests.{ltb-true, ltb-false, eq-eqb}
+use borrow.Author.Tests.{ltb-true, ltb-false}
 use Rattle.lists.specs.Lists.{tab}
 use Rattle.lists.proofs.Tables.{length-tab, getD-tab}
 use Rattle.levels.specs.declared.MipLevel.{MipLevel}
-use Rattle.levels.specs.Levels.{absent, levelAt, levelsOf, levelOf, fits, validLevels, validOf}
+use Rattle.levels.specs.Levels.{absent, levelAt, levelsOf, levelOf, fits, validOf}
 use Rattle.levels.proofs.Lone.{Gone, lone-valid, kept-above}
 use Rattle.layouts.specs.Words.{word, long}
 use Rattle.layouts.specs.Records.{readLevel, readTexture}

@@ -1,8 +1,8 @@
 -- What is written reads back the same. Assumes nothing.
 use mathlib.Core.Bool.{Bool, true, false, cond, not}
 use mathlib.Core.Path.{_≡_, refl, sym, ap, _∙_}
-use mathlib.Core.List.{List, [], _∷_, _++_}
-use Prim.Native.Nat.{ℕ, zero, suc, _+_, _*_, _/_, _%_, _≤_, _<_}
+use mathlib.Core.List.{List, _++_}
+use Prim.Native.Nat.{ℕ, zero, _+_, _*_, _/_, _%_, _<_}
 use native.Mathlib.Nat.{add-zero, zero-add}
 use native.Mathlib.Omega.{arith}
 use lib.Dec.{eqb}
@@ -12,7 +12,7 @@ use borrow.Author.Tests.{eq-eqb, eqb-true}
 use Rattle.lists.proofs.Choice.{true-false}
 use Rattle.lists.specs.Lists.{tab, flat}
 use Rattle.lists.proofs.Flats.{getD-flat}
-use Rattle.lists.proofs.Rows.{length-flat, row-in}
+use Rattle.lists.proofs.Rows.{length-flat}
 use Rattle.lists.proofs.Tables.{length-tab, getD-tab}
 use Rattle.levels.specs.declared.MipLevel.{MipLevel}
 use Rattle.levels.specs.declared.Texture.{Texture}
@@ -29,7 +29,7 @@ use Rattle.texture.specs.declared.WrapCode.the-variants as wrap-code
 use Rattle.texture.specs.Parameters.{minFilterOf, filterOf, wrapOf}
 use Rattle.layouts.specs.declared.RecordRead.{RecordRead}
 use Rattle.layouts.specs.Words.{word, long}
-use Rattle.layouts.specs.Records.{readLevel, minKnown, minOr, magKnown, magOr, wrapKnown, wrapOr, codesKnown, readTexture, readOf, levelBytes, levelBytesAt, minCode, magCode, wrapCode, restBytes, recordBytes}
+use Rattle.layouts.specs.Records.{readLevel, codesKnown, readTexture, readOf, levelBytes, levelBytesAt, minCode, magCode, wrapCode, restBytes, recordBytes}
 
 -- ---- numbers
 

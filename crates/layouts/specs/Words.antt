@@ -1,6 +1,6 @@
 -- Numbers in a byte layout, the low byte first.
 use Prim.Native.Nat.{ℕ, _+_, _*_, _/_, _%_}
-use mathlib.Core.List.{List, [], _∷_}
+use mathlib.Core.List.{List}
 use lib.ListN.{getD}
 
 -- four and eight bytes at i

@@ -1,14 +1,14 @@
 -- What validity says of each kept level. Assumes nothing.
-use mathlib.Core.Bool.{Bool, true, false, cond}
+use mathlib.Core.Bool.{Bool, true, false}
 use mathlib.Core.Path.{_≡_, refl, sym, ap, _∙_}
 use mathlib.Core.List.{List, [], _∷_}
-use Prim.Native.Nat.{ℕ, zero, suc, _+_, _≤_, _<_}
+use Prim.Native.Nat.{ℕ, zero, _+_, _≤_, _<_}
 use native.Mathlib.Omega.{arith}
 use lib.Dec.{leb, ltb, eqb, leb·zero}
-use lib.ListN.{length, getD, set, drop}
+use lib.ListN.{length, getD, set}
 use borrow.Author.Tests.{leb-true, leb-false, ltb-true, eqb-true, le-leb, lt-ltb, le-ltb, eq-eqb}
 use Rattle.lists.specs.Lists.{any, all}
-use Rattle.lists.proofs.Choice.{was-true, was-false, true-false}
+use Rattle.lists.proofs.Choice.{was-true, true-false}
 use Rattle.lists.proofs.Members.{all-getD}
 use Rattle.levels.specs.declared.MipLevel.{MipLevel}
 use Rattle.levels.specs.declared.Texture.{Texture}

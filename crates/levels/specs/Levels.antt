@@ -3,7 +3,7 @@ use mathlib.Core.Bool.{Bool, true, false, cond}
 use mathlib.Core.List.{List, [], _∷_}
 use Prim.Native.Nat.{ℕ, _+_, _*_, _/_, _≤_}
 use lib.Dec.{ltb, leb, eqb}
-use lib.ListN.{getD, set, replicate, take, drop}
+use lib.ListN.{getD, replicate, take, drop}
 use Rattle.lists.specs.Lists.{any, all}
 use Rattle.levels.specs.declared.MipLevel.{MipLevel}
 use Rattle.levels.specs.declared.Texture.{Texture}

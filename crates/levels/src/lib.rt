@@ -5,7 +5,7 @@ ghost use mathlib.Core.Bool.{true};
 ghost use Prim.Native.Nat.{_+_, _≤_, _<_};
 ghost use lib.ListN.{length, getD, drop};
 ghost use Rattle.lists.specs.Lists.{any, all};
-ghost use Rattle.levels.specs.Levels.{absent, levelsOf, levelOf, sizeOf, texelsOf, newTexture, complete, half, single, follows, topOf, overlap, overlaps, apart, startsAt, endOf, ascending, fits, validLevels, validOf, Fits};
+ghost use Rattle.levels.specs.Levels.{absent, levelsOf, sizeOf, texelsOf, newTexture, complete, half, single, follows, topOf, overlap, overlaps, apart, startsAt, endOf, ascending, fits, validLevels, validOf, Fits};
 
 pub enum Filter {
     Nearest,

@@ -1,6 +1,6 @@
 -- A loop that writes k elements a turn, from the front: after n turns the list is `flat n f ++ drop (n * k) d`. Assumes nothing.
 use mathlib.Core.Path.{_≡_, refl, sym, ap, _∙_}
-use mathlib.Core.List.{List, [], _∷_, _++_, append-nil}
+use mathlib.Core.List.{List, _++_, append-nil}
 use Prim.Native.Nat.{ℕ, zero, suc, _+_, _*_, _≤_, _<_}
 use native.Mathlib.Nat.{zero-mul, suc-mul, le-refl, mul-le-mul-right}
 use native.Mathlib.Numerals.{add-one}

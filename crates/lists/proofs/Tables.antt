@@ -6,7 +6,7 @@ use native.Mathlib.Numerals.{add-one}
 use native.Mathlib.Decide.{decLt}
 use native.Mathlib.Omega.{arith}
 use lib.ListN.{length, getD, set, drop, length-append, drop-of-length-le, List·getD-append}
-use lib.Seq.{drop-cons, set-at, append-snoc, getD-at, getD-append-seam}
+use lib.Seq.{drop-cons, set-at, append-snoc, getD-at}
 use Rattle.lists.specs.Lists.{tab}
 
 module _ {A : Type 0} (f : ℕ → A) where

@@ -1,13 +1,13 @@
 // Paletted images, over the width of an index and the kind of an entry (texture.rs, decode_paletted).
 use texels::*;
 ghost use mathlib.Core.Path.{_≡_};
-ghost use Prim.Native.Nat.{_+_, _-_, _*_, _/_, _%_, _^_, _≤_, _<_};
-ghost use lib.ListN.{length, getD};
+ghost use Prim.Native.Nat.{_+_, _-_, _*_, _/_, _%_, _≤_, _<_};
+ghost use lib.ListN.{length};
 ghost use lib.Seq.{paste};
 ghost use Rattle.lists.specs.Lists.{flat};
 ghost use Rattle.texels.specs.Image.{image};
-ghost use Rattle.texels.specs.Texels.{texelBytes, nthTexel};
-ghost use Rattle.palette_images.specs.Paletted.{rowBytes, paletteBytes, palettedBytes, indexIn, palettedImage, Entries, entry, entryAt};
+ghost use Rattle.texels.specs.Texels.{texelBytes};
+ghost use Rattle.palette_images.specs.Paletted.{rowBytes, palettedBytes, indexIn, palettedImage, Entries, entry, entryAt};
 
 // The bytes of a row of indices.
 pub fn row_bytes(bits: usize, w: usize) -> usize

@@ -1,5 +1,5 @@
 -- The ways of a fragment: its depth fails, its 1/w is of no use, or it reaches the stages. Assumes nothing.
-use mathlib.Core.Path.{_≡_, refl, sym, ap, _∙_}
+use mathlib.Core.Path.{_≡_, refl, sym, _∙_}
 use mathlib.Core.Bool.{Bool, true, false, cond, not}
 use mathlib.Core.List.{List, []}
 use Prim.Native.Nat.{ℕ}
@@ -16,7 +16,6 @@ use Rattle.gradients.specs.declared.PerCorner.{PerCorner}
 use Rattle.coverage.specs.declared.Primitive.{Primitive}
 use Rattle.coverage.specs.Coverage.{depthAt, invWAt, usable, colorOf}
 use Rattle.stages.specs.Stages.{stageAt, textureAt, coordinatesOf, stageColor, stageStep, stagesColor}
-use Rattle.pixels.specs.declared.Fragment.{Fragment}
 use Rattle.pixels.specs.declared.Fragment.the-variants.{Dropped, Kept}
 use Rattle.pixels.specs.Way.{Drawing, drawing, reaches, shares, shadedOf, fogDepthOf, finished, fragmentOf}
 

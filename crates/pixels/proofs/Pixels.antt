@@ -1,6 +1,6 @@
 -- The three ways of a pixel: not covered, its fragment dropped, its fragment kept. Assumes nothing.
-use mathlib.Core.Path.{_≡_, refl, sym, ap, _∙_}
-use mathlib.Core.Bool.{Bool, true, false, cond}
+use mathlib.Core.Path.{_≡_, refl}
+use mathlib.Core.Bool.{true, false}
 use mathlib.Core.List.{List, []}
 use Prim.Native.Nat.{ℕ, _+_, _*_}
 use lib.ListN.{getD, set}
@@ -8,10 +8,9 @@ use lib.Ieee.{Float, nan}
 use Rattle.settings.specs.declared.Rgba.{Rgba}
 use Rattle.settings.specs.declared.PipelineState.{PipelineState}
 use Rattle.frames.specs.State.{Pixel, pixelAt}
-use Rattle.frames.specs.Gather.{Drawn, putColor, putPixel}
+use Rattle.frames.specs.Gather.{putColor, putPixel}
 use Rattle.coverage.specs.declared.Primitive.{Primitive}
 use Rattle.coverage.specs.Coverage.{weightsOf, coveredBy}
-use Rattle.pixels.specs.declared.Fragment.{Fragment}
 use Rattle.pixels.specs.declared.Fragment.the-variants.{Dropped, Kept}
 use Rattle.pixels.specs.Way.{Drawing, fragmentOf, blendedOf, writtenOf, fragAt, pixelOf, drawnTo}
 

@@ -1,6 +1,6 @@
 -- The pixel's way: document 01, port order 7. Weights, depth test, 1/w, colour, stages in order, alpha test, fog, blend, masked colour, depth, count.
 use Prim.Native.Nat.{ℕ, _+_, _*_}
-use mathlib.Core.Bool.{Bool, true, false, cond}
+use mathlib.Core.Bool.{Bool, false, cond}
 use mathlib.Core.Option.{Option, none, some}
 use mathlib.Core.List.{List, []}
 use lib.Ieee.{Float}

@@ -1,5 +1,5 @@
 -- A pixel of a triangle of one colour. Assumes nothing.
-use mathlib.Core.Path.{_≡_, refl, sym, ap, _∙_}
+use mathlib.Core.Path.{_≡_, refl, sym, _∙_}
 use mathlib.Core.Bool.{Bool, true, false, cond}
 use mathlib.Core.List.{List, []}
 use Prim.Native.Nat.{ℕ, _+_, _*_}
@@ -13,7 +13,6 @@ use Rattle.frames.specs.State.{pixelAt}
 use Rattle.frames.specs.Gather.{putColor}
 use Rattle.coverage.specs.declared.Primitive.{Primitive}
 use Rattle.coverage.specs.Coverage.{weightsOf, coveredBy, depthAt, invWAt, usable, colorOf}
-use Rattle.pixels.specs.declared.Fragment.{Fragment}
 use Rattle.pixels.specs.declared.Fragment.the-variants.{Kept}
 use Rattle.pixels.specs.Way.{drawing, fragmentOf, blendedOf, writtenOf, pixelOf, drawnTo}
 use Rattle.plain_pixels.specs.Solid.{solidOf, solidColor}

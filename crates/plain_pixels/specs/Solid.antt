@@ -1,5 +1,4 @@
 -- A triangle of one colour: settings under which each pixel that it writes gets its last corner's colour in all four bytes.
-use Prim.Native.Nat.{ℕ}
 use mathlib.Core.Bool.{Bool, false, cond}
 use lib.ListN.{getD}
 use lib.Ieee.{nan}

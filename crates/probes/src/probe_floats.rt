@@ -1,6 +1,5 @@
 // The helpers of the crates floats, channels and rounding.
 ghost use mathlib.Core.Path.{_≡_};
-ghost use mathlib.Core.List.{List};
 ghost use Prim.Native.Nat.{ℕ};
 ghost use lib.Ieee as Ieee;
 ghost use lib.Ieee.{binary32, nan};

@@ -8,7 +8,6 @@ use mipmaps::Coordinates;
 use sampler::Texel;
 ghost use mathlib.Core.Path.{_≡_};
 ghost use mathlib.Core.Bool.{cond, true};
-ghost use mathlib.Core.List.{List};
 ghost use Prim.Native.Nat.{ℕ, _+_, _*_, _≤_, _<_};
 ghost use lib.Ieee.{nan};
 ghost use lib.ListN.{length, getD};

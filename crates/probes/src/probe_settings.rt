@@ -1,8 +1,6 @@
 // Comparisons, blend factors and the steps of a fragment. An unknown code stands for the first of its kind.
 ghost use mathlib.Core.Path.{_≡_};
-ghost use mathlib.Core.Bool.{cond};
 ghost use Rattle.floats.specs.Num.{clampOf, zero32, one32};
-ghost use Rattle.channels.specs.Channel.{byteOf};
 ghost use Rattle.settings.specs.Compare.{testOf};
 ghost use Rattle.settings.specs.Factor.{resolveOf};
 ghost use Rattle.fragment.specs.Fragment.{envOf, linearFogOf, fogMixOf, blendOf, maskedOf};

@@ -1,6 +1,6 @@
 -- Document 01, Corners, raster.rs: triangles left by clipping that write nothing. The other triangles of their fan are drawn all the same,
 -- since each is a step of its own. Assumes nothing.
-use mathlib.Core.Path.{_≡_, refl, sym, ap, _∙_}
+use mathlib.Core.Path.{_≡_, refl, sym, _∙_}
 use mathlib.Core.Logic.{_⊎_, inl, inr}
 use mathlib.Core.Bool.{Bool, true, false, cond}
 use mathlib.Core.List.{List, []}
@@ -8,7 +8,7 @@ use mathlib.Core.Option.{none}
 use Prim.Native.Nat.{ℕ, _+_, _*_}
 use lib.Dec.{eqb}
 use lib.Ieee as Ieee
-use lib.Ieee.{Float, nan, inf, fin, binary32}
+use lib.Ieee.{Float, nan, inf, fin}
 use Rattle.lists.specs.Lists.{between}
 use Rattle.lists.proofs.Turns.{between-keep}
 use Rattle.lists.proofs.Choice.{true-false}
@@ -30,11 +30,10 @@ use Rattle.frames.specs.State.{Pixel, pixelAt}
 use Rattle.frames.specs.Gather.{Drawn, Frag, putPixel}
 use Rattle.coverage.specs.declared.Primitive.{Primitive}
 use Rattle.coverage.specs.Coverage.{edgeOf, weightsOf, coveredBy, depthAt, invWAt, usable}
-use Rattle.pixels.specs.declared.Fragment.{Fragment}
 use Rattle.pixels.specs.declared.Fragment.the-variants.{Dropped}
 use Rattle.stages.specs.Stages.{stagesAddresses}
 use Rattle.pixels.specs.Way.{Drawing, reaches, recOf, fragmentOf, leftBy, fragAt, pixelOf}
-use Rattle.raster.specs.Fill.{primitiveOf, rowOf, fillOf, setupFor, rasterOf}
+use Rattle.raster.specs.Fill.{primitiveOf, rowOf, fillOf, rasterOf}
 use Rattle.raster.proofs.Setups.{nothing-drawn, filled}
 
 -- ---- a corner that cannot be divided, an area that is 0 or not finite

@@ -10,7 +10,7 @@ use Rattle.vertices.specs.declared.Vertex.{Vertex}
 use Rattle.polygon.specs.Corners.{cornersOf}
 use Rattle.polygon.proofs.Corners.{length-corners}
 use Rattle.clip.specs.Clip.{clipped, allInside}
-use Rattle.clip.specs.Fan.{Triangle, triangleOf, fanAt, fanOf, leftOf, drawEach}
+use Rattle.clip.specs.Fan.{Triangle, triangleOf, fanAt, fanOf, drawEach}
 use Rattle.clip.proofs.Laws.{clipped-few}
 use Rattle.clip.proofs.Fans.{fanStep, fan-loop, left-inside, left-clipped}
 use Rattle.lists.specs.Lists.{between}

@@ -1,5 +1,5 @@
 -- A triangle left by clipping: it is filled over the box that its setup gives, which lies in the scissor's, or nothing is drawn. Assumes nothing.
-use mathlib.Core.Path.{_≡_, refl, sym, ap, _∙_}
+use mathlib.Core.Path.{_≡_}
 use mathlib.Core.List.{List}
 use Prim.Native.Nat.{ℕ}
 use native.Mathlib.Omega.{arith}
@@ -17,7 +17,7 @@ use Rattle.setup.specs.declared.PixelBox.{PixelBox}
 use Rattle.setup.specs.declared.Raster.{Raster}
 use Rattle.setup.specs.declared.Setup.{Setup}
 use Rattle.setup.specs.declared.Setup.the-variants.{Nothing, Draws}
-use Rattle.setup.specs.Setup.{setupOf, onScreen, withCorner}
+use Rattle.setup.specs.Setup.{setupOf, withCorner}
 use Rattle.setup.proofs.Outcomes.{Within, drawn-within}
 use Rattle.frames.specs.Gather.{Drawn}
 use Rattle.pixels.specs.Way.{Drawing}

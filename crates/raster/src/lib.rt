@@ -8,7 +8,7 @@ ghost use Rattle.stages.specs.Stages.{StagesFit};
 ghost use Rattle.pixels.specs.Way.{drawing, drawnTo};
 ghost use Rattle.clip.specs.Fan.{triangleOf, fanOf, drawEach};
 ghost use Rattle.clip.specs.Clip.{clipped};
-ghost use Rattle.raster.specs.Fill.{primitiveOf, rowOf, fillOf, rasterOf, leftDrawn, setupFor};
+ghost use Rattle.raster.specs.Fill.{primitiveOf, rowOf, fillOf, rasterOf, leftDrawn};
 ghost use mathlib.Core.List.{[], _∷_};
 use coverage::Primitive;
 use gradients::PerCorner;

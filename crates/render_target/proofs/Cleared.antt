@@ -9,7 +9,7 @@ use native.Mathlib.Nat.{le-refl, mul-zero, mod-lt, div-add-mod', div-lt-iff-lt-m
 use lib.Arith.{digits-div, digits-mod}
 use lib.Dec.{leb, ltb, leb·zero}
 use lib.ListN.{length, getD}
-use borrow.Author.Tests.{leb-true, ltb-true, le-leb, lt-ltb, lt-leb, le-ltb}
+use borrow.Author.Tests.{le-leb, lt-ltb, lt-leb, le-ltb}
 use Rattle.lists.specs.Lists.{tab, turns, between}
 use Rattle.lists.proofs.Tables.{length-tab}
 use Rattle.lists.proofs.Choice.{true-false}

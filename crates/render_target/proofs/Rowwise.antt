@@ -1,20 +1,14 @@
 -- Rows of a box filled in turn: one row more, and what stands at each place in the end. Assumes nothing.
-use Prim.Native.Nat.{ℕ, zero, suc, _+_, _-_, _*_, _/_, _%_, _≤_, _<_}
-use mathlib.Core.Path.{_≡_, refl, sym, ap, _∙_}
-use mathlib.Core.Bool.{Bool, true, false, cond, _&&_}
+use Prim.Native.Nat.{ℕ, suc, _+_, _-_, _*_, _≤_, _<_}
+use mathlib.Core.Path.{_≡_, sym, _∙_}
 use mathlib.Core.List.{List}
 use native.Mathlib.Omega.{arith}
-use native.Mathlib.Nat.{mul-one, suc-mul, mul-le-mul-right, div-add-mod', div-lt-iff-lt-mul, le-div-iff-mul-le, mod-lt}
-use lib.Arith.{digits-div, digits-mod}
-use lib.Dec.{leb, ltb}
-use lib.ListN.{length, getD}
-use borrow.Author.Tests.{leb-true, ltb-true, le-leb, lt-ltb}
-use Rattle.lists.specs.Lists.{tab, turns, between}
+use native.Mathlib.Nat.{mul-one, suc-mul, mul-le-mul-right}
+use lib.ListN.{length}
+use Rattle.lists.specs.Lists.{between}
 use Rattle.lists.proofs.Turns.{between-more, between-done}
-use Rattle.lists.proofs.Choice.{true-false}
 use Rattle.render_target.specs.Clear.{spanOf, rowsOf}
-use Rattle.scissor.proofs.Boxes.{same-truth, both, split}
-use Rattle.render_target.proofs.Spans.{length-span, span-at}
+use Rattle.render_target.proofs.Spans.{length-span}
 
 module _ {A : Type 0} (k : ℕ) (v : ℕ → A) (z : A) (w x0 x1 y1 : ℕ) (l : List A) where
   pub rows-more : (y : ℕ) → y < y1 → rowsOf k v z w x0 y x1 y1 l ≡ rowsOf k v z w x0 (y + 1) x1 y1 (spanOf v z ((y * w + x0) * k) ((y * w + x1) * k) l)

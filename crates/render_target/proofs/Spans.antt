@@ -1,5 +1,5 @@
 -- Elements of a list filled from the front, and what stands at each place afterwards. Assumes nothing.
-use Prim.Native.Nat.{ℕ, zero, suc, _+_, _-_, _*_, _/_, _%_, _≤_, _<_}
+use Prim.Native.Nat.{ℕ, suc, _+_, _-_, _*_, _≤_, _<_}
 use mathlib.Core.Path.{_≡_, refl, sym, ap, _∙_}
 use mathlib.Core.Bool.{Bool, true, false, cond, _&&_}
 use mathlib.Core.List.{List}
@@ -9,12 +9,11 @@ use lib.ListN.{length, getD, set, length-set}
 use lib.Seq.{ext-getD, getD-set-same, getD-set-other}
 use lib.Arith.{lt-of-le-ne, digits-mod}
 use native.Mathlib.Decide.{ℕ-discrete}
-use borrow.Author.Tests.{leb-true, ltb-true, le-leb, lt-ltb, le-ltb, lt-leb}
+use borrow.Author.Tests.{leb-true, ltb-true, le-leb, lt-ltb}
 use Rattle.lists.specs.Lists.{tab}
 use Rattle.lists.proofs.Tables.{length-tab, getD-tab}
-use Rattle.lists.proofs.Choice.{true-false}
 use Rattle.render_target.specs.Clear.{spanOf, colorAt}
-use Rattle.scissor.proofs.Boxes.{same-truth, both, split}
+use Rattle.scissor.proofs.Boxes.{same-truth, split}
 
 -- a table over a list's places
 module _ {A : Type 0} (f : ℕ → A) (z : A) (l : List A) where

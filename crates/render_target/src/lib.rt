@@ -1,6 +1,6 @@
 // Clears of a render target (raster.rs, RenderTarget).
 ghost use mathlib.Core.Path.{_≡_};
-ghost use Prim.Native.Nat.{ℕ, _*_, _≤_};
+ghost use Prim.Native.Nat.{_*_, _≤_};
 ghost use lib.Ieee.{nan};
 ghost use lib.ListN.{length, getD};
 ghost use Rattle.answers.specs.Numbers.{numberOf};

@@ -1,13 +1,12 @@
 -- A sample of one level or of two, from the levels' own samples. Assumes nothing.
 use Prim.Native.Nat.{ℕ, _+_}
 use mathlib.Core.Path.{_≡_, refl, sym, ap, _∙_}
-use mathlib.Core.Bool.{Bool, true, false, cond}
+use mathlib.Core.Bool.{true, false}
 use mathlib.Core.List.{List, _++_, map, map-append}
-use lib.Dec.{eqb}
 use lib.ListN.{length, getD, take, drop}
 use lib.Seq.{take-at, drop-at}
 use lib.Ieee.{Float}
-use Rattle.lists.proofs.Choice.{yes, no}
+use Rattle.lists.proofs.Choice.{no}
 use Rattle.levels.specs.declared.MipLevel.{MipLevel}
 use Rattle.levels.specs.declared.Texture.{Texture}
 use Rattle.levels.specs.declared.Wrap.{Wrap}

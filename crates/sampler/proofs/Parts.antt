@@ -1,7 +1,7 @@
 -- A level's texels, read from the part of the store that holds it, are those at its addresses in the store. Assumes nothing.
 use Prim.Native.Nat.{ℕ, _+_, _*_, _≤_, _<_}
-use mathlib.Core.Path.{_≡_, refl, sym, ap, _∙_}
-use mathlib.Core.List.{List, [], _∷_, map}
+use mathlib.Core.Path.{_≡_, refl, ap, _∙_}
+use mathlib.Core.List.{List}
 use native.Mathlib.Nat.{add-assoc}
 use native.Mathlib.Omega.{arith}
 use lib.ListN.{length, getD, take, drop, length-take, length-drop}
@@ -11,7 +11,7 @@ use Rattle.levels.specs.declared.MipLevel.{MipLevel}
 use Rattle.levels.specs.declared.Wrap.{Wrap}
 use Rattle.levels.specs.declared.Filter.the-variants.{Nearest, Linear}
 use Rattle.levels.specs.Levels.{Fits, sizeOf, texelsOf}
-use Rattle.coords.specs.Coords.{wrapCoord, firstOf, secondOf, weightOf}
+use Rattle.coords.specs.Coords.{firstOf, secondOf, weightOf}
 use Rattle.coords.proofs.Sides.{coord-below, first-below, second-below}
 use Rattle.sampler.specs.declared.Texel.{Texel}
 use Rattle.sampler.specs.Texels.{texelAt, linearTexel}

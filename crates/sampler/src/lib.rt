@@ -11,12 +11,11 @@ ghost use mathlib.Core.Bool.{true};
 ghost use Prim.Native.Nat.{_+_, _*_, _≤_, _<_};
 ghost use lib.ListN.{length, getD};
 ghost use Rattle.levels.specs.Levels.{levelAt, Fits, validOf};
-ghost use Rattle.coords.specs.Coords.{wrapCoord, firstOf, secondOf, weightOf};
 ghost use Rattle.mipmaps.specs.Mipmaps.{Within};
 ghost use Rattle.detail.specs.Steps.{Thresholds};
 ghost use Rattle.sampler.specs.Texels.{texelAt, white, linearByte, linearTexel, partOf, mixByte, mixTexel};
 ghost use Rattle.sampler.specs.Addresses.{indexOf, filterAddresses, chosenAddresses, bytesAt};
-ghost use Rattle.sampler.specs.Samples.{filterTexel, chosenTexel, firstLevel, lastLevel, levelFilter, levelTexel, placesOf, sidesOf, sampleOf, sampledOf, outcomeOf, sampleCall, Image, Readable, nearestIn, linearIn};
+ghost use Rattle.sampler.specs.Samples.{filterTexel, chosenTexel, firstLevel, lastLevel, levelFilter, placesOf, sidesOf, sampleOf, sampledOf, outcomeOf, sampleCall, Image, Readable, nearestIn, linearIn};
 
 // Red, green, blue and alpha.
 pub struct Texel {

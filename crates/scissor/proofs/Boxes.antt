@@ -1,6 +1,6 @@
 -- The box cut to the target holds exactly the pixels of the target that lie in the scissor box. Assumes nothing.
 use Prim.Native.Nat.{ℕ, zero, suc, _+_, _-_, _*_, _≤_, _<_, min}
-use mathlib.Core.Path.{_≡_, refl, sym, ap, _∙_}
+use mathlib.Core.Path.{_≡_, refl, sym, _∙_}
 use mathlib.Core.Bool.{Bool, true, false, cond, _&&_}
 use native.Mathlib.Omega.{arith}
 use native.Mathlib.Nat.{mul-comm, mul-le-mul-right}

@@ -1,14 +1,14 @@
 -- Signed numbers as the machine reads them back from their bits: u is what it reads where v stands. Assumes nothing.
 use Prim.Native.Nat.{ℕ, zero, suc, _+_, _-_, _^_, _≤_, _<_}
-use mathlib.Core.Path.{_≡_, refl, sym, ap, _∙_, subst}
-use mathlib.Core.Bool.{Bool, true, false, cond, _&&_}
+use mathlib.Core.Path.{_≡_, refl, sym, ap, _∙_}
+use mathlib.Core.Bool.{Bool, true, false, cond}
 use native.Mathlib.Omega.{arith}
-use lib.Dec.{T, ltb, lit≤}
-use lib.IntN.{ℤ, pos, negsuc, _+ℤ_, subℕ, natAbs}
+use lib.Dec.{T, ltb}
+use lib.IntN.{ℤ, pos, negsuc, _+ℤ_, natAbs}
 use lib.Signed.{mag, ltZ, leZ, nonNeg}
 use mir.Syntax.{w32, w64}
 use mir.Val.{Fits, SFits, toZ, ofZ}
-use mir.ValLaws.{toZ-ofZ, sfits-le}
+use mir.ValLaws.{toZ-ofZ}
 use borrow.Author.Tests.{le-ltb, lt-leb, le-leb, ltb-true, ltb-false}
 use Rattle.lists.proofs.Choice.{true-false}
 use Rattle.scissor.specs.Scissor.{fromZero}

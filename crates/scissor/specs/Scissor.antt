@@ -1,7 +1,7 @@
 -- Which pixels of a target lie in a scissor box, and the box cut to the target.
 -- Columns count from the left and rows from the top; a scissor's numbers count rows from the bottom.
 use Prim.Native.Nat.{ℕ, _+_, _-_, _/_, _%_, min}
-use mathlib.Core.Bool.{Bool, true, false, cond, _&&_}
+use mathlib.Core.Bool.{Bool, false, cond, _&&_}
 use lib.Dec.{leb, ltb}
 use lib.IntN.{ℤ, pos, negsuc, _+ℤ_}
 use lib.Signed.{leZ, ltZ}

@@ -1,6 +1,6 @@
 // The scissor box cut to a render target (raster.rs, RenderTarget::scissor_bounds), and the checks on targets and boxes.
 ghost use mathlib.Core.Path.{_≡_};
-ghost use Prim.Native.Nat.{ℕ, _-_, min};
+ghost use Prim.Native.Nat.{_-_, min};
 ghost use lib.IntN.{ℤ, _+ℤ_};
 ghost use Rattle.scissor.specs.Scissor.{fromZero, boxOf, cutOf, boundsOf};
 ghost use Rattle.scissor.specs.Check.{targetFits, numberFits, numbersFit, scissorFits};

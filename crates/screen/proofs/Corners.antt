@@ -1,6 +1,6 @@
 -- A corner by its tests: where it is kept, and where it is not. Assumes nothing.
-use mathlib.Core.Path.{_≡_, refl, sym, _∙_}
-use mathlib.Core.Bool.{Bool, true, false}
+use mathlib.Core.Path.{_≡_}
+use mathlib.Core.Bool.{true, false}
 use Rattle.vertices.specs.declared.Vertex.{Vertex}
 use Rattle.vertices.specs.Vertex.{coord}
 use Rattle.settings.specs.declared.DepthRange.{DepthRange}

@@ -1,7 +1,7 @@
 -- A corner on the screen: raster.rs, raster_clipped; OpenGL ES 1.1, Coordinate Transformations and Controlling the Viewport.
 -- Each float operation stands once, in the order the Rust writes it.
 use Prim.Native.Nat.{ℕ}
-use mathlib.Core.Bool.{Bool, true, false, cond}
+use mathlib.Core.Bool.{Bool, false, cond}
 use lib.IntN.{pos}
 use lib.Signed.{leZ, ltZ}
 use lib.Ieee as Ieee

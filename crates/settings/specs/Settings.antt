@@ -1,13 +1,12 @@
 -- What the codes of comparisons and blend factors stand for, and the default settings.
 use Prim.Native.Nat.{ℕ}
-use mathlib.Core.Bool.{Bool, true, false, cond}
+use mathlib.Core.Bool.{true, false, cond}
 use lib.Dec.{eqb}
 use lib.IntN.{pos}
 use Rattle.floats.specs.Num.{zero32, one32}
 use Rattle.consts.specs.Codes as GL
 use Rattle.answers.specs.declared.Refusal.the-variants.{Code}
 use Rattle.answers.specs.Numbers.{refusalNumber}
-use Rattle.settings.specs.declared.CompareFunc.{CompareFunc}
 use Rattle.settings.specs.declared.CompareFunc.the-variants as C
 use Rattle.settings.specs.declared.ReadCompare.{ReadCompare}
 use Rattle.settings.specs.declared.ReadCompare.the-variants as RC

@@ -1,6 +1,5 @@
 // The settings of a draw (raster.rs): comparisons, blend factors, modes, the scissor box, and all of them together by value.
 ghost use mathlib.Core.Path.{_≡_};
-ghost use Prim.Native.Nat.{ℕ};
 ghost use Rattle.settings.specs.Settings.{readCompare, readFactor, compareNumber, factorNumber, defaultState};
 ghost use Rattle.settings.specs.Compare.{testOf};
 ghost use Rattle.settings.specs.Factor.{splatOf, oneMinus, saturatedOf, resolveOf};

@@ -1,6 +1,6 @@
 -- What follows of a triangle left by clipping: the corners of document 01, and where its pixels lie. Assumes nothing.
-use Prim.Native.Nat.{ℕ, max, min, _<_, _≤_}
-use mathlib.Core.Path.{_≡_, refl, sym, ap, _∙_}
+use Prim.Native.Nat.{ℕ, _<_, _≤_}
+use mathlib.Core.Path.{_≡_, refl, sym}
 use mathlib.Core.Bool.{Bool, true, false, cond, _&&_}
 use native.Mathlib.Omega.{arith}
 use lib.Dec.{ltb}
@@ -11,7 +11,6 @@ use Rattle.settings.specs.declared.Cull.{Cull}
 use Rattle.settings.specs.declared.DepthRange.{DepthRange}
 use Rattle.settings.specs.declared.FrontFace.{FrontFace}
 use Rattle.vertices.specs.declared.Vertex.{Vertex}
-use Rattle.scissor.specs.declared.Bounds.{Bounds}
 use Rattle.scissor.specs.declared.Bounds.the-variants.{Empty, Box}
 use Rattle.screen.specs.declared.View.{View}
 use Rattle.screen.specs.declared.ScreenVertex.{ScreenVertex}

@@ -1,27 +1,24 @@
 -- What becomes of a triangle left by clipping, by its tests. Assumes nothing.
 use Prim.Native.Nat.{ℕ}
-use mathlib.Core.Path.{_≡_, refl, sym, _∙_}
-use mathlib.Core.Bool.{Bool, true, false}
+use mathlib.Core.Path.{_≡_}
+use mathlib.Core.Bool.{true, false}
 use lib.Ieee.{Float}
 use Rattle.floats.specs.Num.{_⊘_, one32}
 use Rattle.settings.specs.declared.Cull.{Cull}
 use Rattle.settings.specs.declared.DepthRange.{DepthRange}
 use Rattle.settings.specs.declared.FrontFace.{FrontFace}
 use Rattle.vertices.specs.declared.Vertex.{Vertex}
-use Rattle.scissor.specs.declared.Bounds.{Bounds}
 use Rattle.scissor.specs.declared.Bounds.the-variants.{Empty, Box}
 use Rattle.screen.specs.declared.View.{View}
 use Rattle.screen.specs.declared.ScreenVertex.{ScreenVertex}
 use Rattle.screen.specs.declared.Corner.{Corner}
 use Rattle.screen.specs.declared.Corner.the-variants as Corner
-use Rattle.screen.specs.Screen.{divides, screenOf, cornerOf}
+use Rattle.screen.specs.Screen.{cornerOf}
 use Rattle.screen.specs.Facing.{areaOf, areaFits, frontOf, discardOf}
 use Rattle.setup.specs.declared.PixelBox.{PixelBox}
-use Rattle.setup.specs.declared.Raster.{Raster}
-use Rattle.setup.specs.declared.Setup.{Setup}
 use Rattle.setup.specs.declared.Setup.the-variants.{Nothing, Draws}
 use Rattle.setup.specs.Box.{coveredOf}
-use Rattle.setup.specs.Setup.{rasterOf, onScreen, withCorner, setupOf}
+use Rattle.setup.specs.Setup.{onScreen, setupOf}
 
 -- ---- three corners on the screen, with their area
 

@@ -1,6 +1,5 @@
 -- One triangle left by clipping, made ready to fill: raster.rs, raster_clipped, up to its loops.
-use mathlib.Core.Bool.{Bool, cond}
-use lib.Ieee.{Float}
+use mathlib.Core.Bool.{cond}
 use Rattle.floats.specs.Num.{_⊘_, one32}
 use Rattle.settings.specs.declared.Cull.{Cull}
 use Rattle.settings.specs.declared.DepthRange.{DepthRange}
@@ -15,7 +14,6 @@ use Rattle.screen.specs.declared.Corner.the-variants as Corner
 use Rattle.screen.specs.Screen.{cornerOf}
 use Rattle.screen.specs.Facing.{areaOf, areaFits, frontOf, discardOf}
 use Rattle.setup.specs.declared.PixelBox.{PixelBox}
-use Rattle.setup.specs.declared.Raster.{Raster}
 use Rattle.setup.specs.declared.Setup.{Setup}
 use Rattle.setup.specs.declared.Setup.the-variants.{Nothing, Draws}
 use Rattle.setup.specs.Box.{coveredOf}

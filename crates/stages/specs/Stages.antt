@@ -2,7 +2,7 @@
 use Prim.Native.Nat.{ℕ, _+_, _*_, _<_, _≤_}
 use mathlib.Core.Path.{_≡_}
 use mathlib.Core.Bool.{true, cond}
-use mathlib.Core.List.{List, [], _++_}
+use mathlib.Core.List.{List, []}
 use lib.ListN.{length, getD}
 use lib.Ieee.{Float, nan}
 use Rattle.lists.specs.Lists.{iter, flat}
@@ -15,9 +15,7 @@ use Rattle.settings.specs.declared.Rgba.{Rgba}
 use Rattle.settings.specs.declared.TextureStage.{TextureStage}
 use Rattle.settings.specs.declared.TexEnvMode.the-variants.{Modulate}
 use Rattle.fragment.specs.Fragment.{unitsOf, texEnvOf}
-use Rattle.vertices.specs.declared.Vertex.{Vertex}
 use Rattle.gradients.specs.declared.PerCorner.{PerCorner}
-use Rattle.gradients.specs.declared.TriangleDerivatives.{TriangleDerivatives}
 use Rattle.gradients.specs.Gradients.{attributeOf}
 use Rattle.mipmaps.specs.declared.Coordinates.{Coordinates}
 use Rattle.sampler.specs.declared.Texel.{Texel}

@@ -1,7 +1,7 @@
 // The texture stages of a fragment, in order (raster.rs, raster_clipped): coordinates, sample, environment.
 ghost use mathlib.Core.Path.{_≡_};
 ghost use mathlib.Core.Bool.{true};
-ghost use Prim.Native.Nat.{_+_, _<_, _≤_};
+ghost use Prim.Native.Nat.{_+_, _<_};
 ghost use lib.ListN.{length};
 ghost use Rattle.levels.specs.Levels.{validOf};
 ghost use Rattle.detail.specs.Steps.{Thresholds};

@@ -8,9 +8,8 @@ ghost use lib.ListN.{length};
 ghost use lib.Seq.{paste};
 ghost use Rattle.lists.specs.Lists.{flat};
 ghost use Rattle.answers.specs.Numbers.{numberOf};
-ghost use Rattle.texels.specs.Image.{image};
 ghost use Rattle.texels.specs.Texels.{expand4, expand5, expand6, half, rgba565, rgba4444, rgba5551, texelBytes, texelAt, nthTexel, byteFormat, formatOf, formatBytes};
-ghost use Rattle.texels.specs.Plain.{plainCheck, plainImage, plainLeft};
+ghost use Rattle.texels.specs.Plain.{plainCheck, plainLeft};
 
 // How the bytes of one texel are read.
 pub enum Texel {

@@ -20,7 +20,7 @@ use Rattle.levels.specs.declared.MipLevel.{MipLevel}
 use Rattle.levels.specs.declared.Texture.{Texture}
 use Rattle.levels.specs.Levels.{absent, levelAt, levelsOf, sizeOf, overlaps, fits, validOf}
 use Rattle.levels.proofs.Valid.{fits-at}
-use Rattle.texture.specs.Define.{stays, stayAt, stay, placeCheck, recordCheck, defineCheck, Outcome, outcome, settle}
+use Rattle.texture.specs.Define.{stays, stayAt, stay, placeCheck, recordCheck, defineCheck, outcome, settle}
 
 -- a level that stays is one of the levels, or absent
 stay-fit : (n : ℕ) (m : MipLevel) → fits n m ≡ true → (b : Bool) → fits n (cond b m absent) ≡ true

@@ -1,5 +1,5 @@
 -- What a patch's check says where it passes. Assumes nothing.
-use mathlib.Core.Bool.{Bool, true, false, cond}
+use mathlib.Core.Bool.{true, false}
 use mathlib.Core.Path.{_≡_, refl, sym, ap, _∙_}
 use mathlib.Core.List.{List}
 use Prim.Native.Nat.{ℕ, _+_, _*_, _≤_, _<_}
@@ -11,8 +11,7 @@ use borrow.Author.Tests.{ltb-false, le-ltb}
 use Rattle.lists.proofs.Choice.{yes, no, was-true, was-false}
 use Rattle.levels.specs.declared.MipLevel.{MipLevel}
 use Rattle.levels.specs.declared.Texture.{Texture}
-use Rattle.levels.specs.Levels.{levelOf, sizeOf, validOf}
-use Rattle.levels.proofs.Valid.{valid-level}
+use Rattle.levels.specs.Levels.{levelOf, validOf}
 use Rattle.texture.specs.Patch.{rectangleCheck, patchCheck, patchStore, Patched, patched, settlePatch, patchOf}
 
 pub record RectangleSound (m : MipLevel) (x y w h len : ℕ) : Type 0 where

@@ -2,7 +2,7 @@
 use mathlib.Core.Bool.{Bool, true, false, cond}
 use mathlib.Core.Path.{_≡_, refl, sym, ap, _∙_}
 use mathlib.Core.List.{List}
-use Prim.Native.Nat.{ℕ, zero, suc, _+_, _≤_, _<_}
+use Prim.Native.Nat.{ℕ, _+_, _<_}
 use native.Mathlib.Decide.{decLt}
 use native.Mathlib.Omega.{arith}
 use lib.Dec.{leb, ltb, eqb}
@@ -14,10 +14,10 @@ use Rattle.lists.proofs.Tables.{length-tab, getD-tab}
 use Rattle.lists.proofs.Members.{getD-all}
 use Rattle.levels.specs.declared.MipLevel.{MipLevel}
 use Rattle.levels.specs.declared.Texture.{Texture}
-use Rattle.levels.specs.Levels.{absent, levelAt, levelsOf, levelOf, sizeOf, topOf, overlaps, apart, fits, validLevels, validOf}
+use Rattle.levels.specs.Levels.{absent, levelAt, levelsOf, levelOf, sizeOf, topOf, overlaps, apart, fits, validOf}
 use Rattle.levels.proofs.Apart.{apart-at, apart-make, overlaps-none, overlaps-gone, overlaps-sym}
 use Rattle.levels.proofs.Valid.{fits-at, valid-fits, valid-apart, valid-make, levels-same, fits-end}
-use Rattle.texture.specs.Define.{stays, stayAt, stay, enterLevel, defineRecord, defineStore, defineCheck, Outcome, outcome, defineOf}
+use Rattle.texture.specs.Define.{stays, stayAt, stay, enterLevel, defineRecord, defineCheck, Outcome, defineOf}
 use Rattle.texture.specs.declared.MinFilterCode.{MinFilterCode}
 use Rattle.texture.specs.declared.MinFilterCode.the-variants as min-code
 use Rattle.texture.specs.declared.FilterCode.{FilterCode}
@@ -25,7 +25,7 @@ use Rattle.texture.specs.declared.FilterCode.the-variants as mag-code
 use Rattle.texture.specs.declared.WrapCode.{WrapCode}
 use Rattle.texture.specs.declared.WrapCode.the-variants as wrap-code
 use Rattle.consts.specs.Codes.{«GL_TEXTURE_MAG_FILTER», «GL_TEXTURE_MIN_FILTER», «GL_TEXTURE_WRAP_S», «GL_TEXTURE_WRAP_T»}
-use Rattle.texture.specs.Parameters.{minFilterOf, filterOf, wrapOf, withMinFilter, withMagFilter, withWrapS, withWrapT, setCheck, setRecord, Setting, setting, setOf}
+use Rattle.texture.specs.Parameters.{minFilterOf, filterOf, wrapOf, withMinFilter, withMagFilter, withWrapS, withWrapT, setCheck, setRecord, setting, setOf}
 use Rattle.texture.proofs.Defining.{Sound, sound}
 use Rattle.texture.proofs.Written.{define-done, define-refused, define-length}
 

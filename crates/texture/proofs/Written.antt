@@ -3,13 +3,13 @@ use mathlib.Core.Bool.{Bool, true, false, cond}
 use mathlib.Core.Path.{_≡_, refl, sym, ap, _∙_}
 use mathlib.Core.List.{List}
 use Prim.Native.Nat.{ℕ, zero, suc, _+_, _-_, _*_, _≤_, _<_}
-use native.Mathlib.Nat.{le-refl, mul-assoc}
+use native.Mathlib.Nat.{le-refl}
 use native.Mathlib.Decide.{decLt}
 use native.Mathlib.Omega.{arith}
 use lib.Dec.{leb, ltb, eqb}
 use lib.ListN.{length, getD, drop, length-drop}
 use lib.Seq.{paste, length-paste}
-use borrow.Author.Tests.{leb-true, leb-false, ltb-true, ltb-false, eqb-true, le-leb, lt-ltb}
+use borrow.Author.Tests.{leb-true, ltb-true, ltb-false, eqb-true, le-leb}
 use Rattle.lists.specs.Lists.{iter}
 use Rattle.lists.proofs.Choice.{was-true, was-false, true-false}
 use Rattle.lists.proofs.Paste.{paste-before, paste-inside, paste-after}
@@ -19,9 +19,9 @@ use Rattle.levels.specs.declared.Texture.{Texture}
 use Rattle.levels.specs.Levels.{levelAt, levelOf, sizeOf}
 use Rattle.levels.proofs.Valid.{valid-level}
 use Rattle.texture.specs.Define.{defineCheck, defineStore, defineRecord, Outcome, outcome, settle, defineOf, inRun, defineWrites}
-use Rattle.texture.specs.Patch.{patchCheck, rowPlace, patchRow, patchStore, Patched, patched, settlePatch, patchOf, inRows, patchWrites}
-use Rattle.texture.proofs.Defining.{Sound, sound, settle-done, settle-refused}
-use Rattle.texture.proofs.Patching.{PatchSound, patch-sound, patch-done, patch-refused}
+use Rattle.texture.specs.Patch.{patchCheck, rowPlace, patchRow, patchStore, Patched, patched, patchOf, inRows, patchWrites}
+use Rattle.texture.proofs.Defining.{sound, settle-done, settle-refused}
+use Rattle.texture.proofs.Patching.{patch-sound, patch-done, patch-refused}
 
 false-true : _≡_ {A = Bool} false true → ⊥
 false-true e = true-false (sym e)

@@ -1,5 +1,5 @@
 -- set_parameter: the codes, the check, what becomes of the record, and the call.
-use mathlib.Core.Bool.{Bool, true, false, cond}
+use mathlib.Core.Bool.{Bool, true, cond}
 use Prim.Native.Nat.{ℕ}
 use lib.Dec.{eqb}
 use Rattle.consts.specs.Codes.{«GL_TEXTURE_MAG_FILTER», «GL_TEXTURE_MIN_FILTER», «GL_TEXTURE_WRAP_S», «GL_TEXTURE_WRAP_T»}

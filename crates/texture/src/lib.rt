@@ -11,10 +11,10 @@ ghost use mathlib.Core.Bool.{true, cond};
 ghost use Prim.Native.Nat.{_+_, _*_, _≤_, _<_};
 ghost use lib.ListN.{length};
 ghost use lib.Seq.{paste};
-ghost use Rattle.lists.specs.Lists.{all, iter};
+ghost use Rattle.lists.specs.Lists.{all};
 ghost use Rattle.answers.specs.Numbers.{numberOf};
-ghost use Rattle.levels.specs.Levels.{absent, levelAt, levelsOf, levelOf, fits, sizeOf, validOf, Fits};
-ghost use Rattle.texture.specs.Define.{stays, stay, placeCheck, recordCheck, defineCheck, enterLevel, defineRecord, Outcome, outcome, defineOf};
+ghost use Rattle.levels.specs.Levels.{absent, fits, sizeOf, Fits};
+ghost use Rattle.texture.specs.Define.{stays, stay, placeCheck, recordCheck, defineCheck, enterLevel, defineRecord, outcome, defineOf};
 ghost use Rattle.texture.specs.Patch.{rectangleCheck, patchRow, patchStore, patched, settlePatch, patchOf};
 ghost use Rattle.texture.specs.Parameters.{minFilterOf, filterOf, wrapOf, ignored, minFilterCheck, filterCheck, wrapCheck, withMinFilter, withMagFilter, withWrapS, withWrapT, setting, setOf};
 

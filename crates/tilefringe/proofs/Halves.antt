@@ -1,7 +1,7 @@
 -- The two halves of a draw's answer: the refusal's number is its quotient by 2^32 and the count of pixel writes its remainder, since no
 -- count reaches 2^32. Assumes nothing.
-use Prim.Native.Nat.{ℕ, _*_, _/_, _%_, _≤_, _<_}
-use mathlib.Core.Path.{_≡_, refl, sym, _∙_}
+use Prim.Native.Nat.{ℕ, _*_, _/_, _%_, _<_}
+use mathlib.Core.Path.{_≡_, refl, sym}
 use mathlib.Core.Bool.{Bool, true, false, cond, true≢false}
 use mathlib.Core.List.{List}
 use native.Mathlib.Nat.{mul-le-mul}

@@ -1,7 +1,6 @@
-use mathlib.Core.Path.{sym, _∙_}
+use mathlib.Core.Path.{sym}
 use mathlib.Core.List.{append-nil}
 use native.Mathlib.Omega.{arith}
-use Rattle.polygon.specs.Corners.{cornersOf}
 use Rattle.polygon.proofs.Corners.{corners-more}
 use Rattle.clip.proofs.Laws.{crosses, stays}
 use borrow.Author.Needs.{needs}

@@ -1,9 +1,6 @@
-use mathlib.Core.Path.{_≡_, refl, sym, ap, _∙_}
-use mathlib.Core.List.{[], _∷_, _++_}
+use mathlib.Core.Path.{ap, _∙_}
 use native.Mathlib.Omega.{arith}
 use borrow.Author.Needs.{needs}
-use lib.ListN.{length}
-use Rattle.polygon.specs.Corners.{cornersOf}
 use Rattle.polygon.proofs.Corners.{three-corners}
 use Rattle.clip.specs.Clip.{clipped}
 use Rattle.clip.proofs.clip_triangle.Statement.{statement}

@@ -2,7 +2,6 @@ use mathlib.Core.Path.{sym, _∙_}
 use mathlib.Core.List.{append-nil}
 use native.Mathlib.Omega.{arith}
 use borrow.Author.Tests.{not-true, not-false}
-use Rattle.polygon.specs.Corners.{cornersOf}
 use Rattle.polygon.proofs.Corners.{corners-more}
 use Rattle.clip.proofs.Laws.{kept-in, kept-out}
 use borrow.Author.Needs.{needs}

@@ -1,7 +1,6 @@
 use Rattle.polygon.proofs.Corners.{length-corners}
 use Rattle.clip.proofs.Walks.{Walking, starts, ends, room-kept, room-cross, goes, this-corner, next-corner}
-use mathlib.Core.Path.{_≡_, refl, sym, ap, _∙_}
-use mathlib.Core.List.{_++_}
+use mathlib.Core.Path.{_≡_, ap}
 use Prim.Native.Nat.{_≤_, _-_, _+_}
 use native.Mathlib.Nat.{mod-lt}
 use native.Mathlib.Omega.{arith}

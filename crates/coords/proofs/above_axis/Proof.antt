@@ -1,5 +1,4 @@
 use borrow.Author.Needs.{needs}
-use mathlib.Core.Path.{_≡_, sym}
 use native.Mathlib.Omega.{arith}
 use Rattle.coords.specs.Coords.{axisAt}
 use Rattle.coords.proofs.Quick.{floored-above, small-float}

@@ -1,7 +1,6 @@
 use borrow.Author.Needs.{needs}
-use mathlib.Core.Path.{sym, ap, subst, _∙_}
+use mathlib.Core.Path.{sym}
 use native.Mathlib.Omega.{arith}
-use Rattle.coords.specs.Coords.{wrapTexel}
 use Rattle.coords.proofs.Wraps.{first-in}
 use Rattle.coords.proofs.Steps.{above-more, above-repeat, above-edge}
 use Rattle.coords.proofs.above_next.Statement.{statement}

@@ -1,5 +1,4 @@
 use borrow.Author.Needs.{needs}
-use mathlib.Core.Path.{_≡_, refl}
 use native.Mathlib.Omega.{arith}
 use Rattle.coords.specs.Coords.{wrapTexel, remOf, edgeOf}
 use Rattle.coords.proofs.above_texel.Statement.{statement}

@@ -1,5 +1,5 @@
 use borrow.Author.Needs.{needs}
-use mathlib.Core.Path.{_≡_, refl, sym}
+use mathlib.Core.Path.{refl}
 use native.Mathlib.Omega.{arith}
 use Rattle.coords.specs.Coords.{axisAt}
 use Rattle.coords.proofs.Quick.{floored-below, small-float}

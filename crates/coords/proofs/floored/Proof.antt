@@ -1,9 +1,6 @@
-use mathlib.Core.Path.{_≡_, refl, sym, ap}
-use mathlib.Core.Bool.{true}
-use lib.Ieee.{Float, lt, neg, ofBits}
+use mathlib.Core.Path.{refl, sym}
 use native.Mathlib.Omega.{arith}
 use borrow.Author.Needs.{needs}
-use Rattle.coords.specs.Coords.{Few}
 use Rattle.coords.proofs.Quick.{floored-above, floored-below, small-float, minus-above}
 use Rattle.coords.proofs.floored.Statement.{statement}
 use Rattle.coords.proofs.floored.Tie as tie

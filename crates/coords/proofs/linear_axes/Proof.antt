@@ -1,5 +1,5 @@
 use borrow.Author.Needs.{needs}
-use mathlib.Core.Path.{_≡_, sym, _∙_}
+use mathlib.Core.Path.{sym, _∙_}
 use Rattle.coords.specs.Coords.{axisOf, axisAt, firstOf, secondOf, weightOf, lowOf}
 use Rattle.coords.proofs.linear_axes.Statement.{statement}
 use Rattle.coords.proofs.linear_axes.Tie as tie

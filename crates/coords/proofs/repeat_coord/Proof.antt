@@ -1,9 +1,9 @@
 use borrow.Author.Needs.{needs}
-use mathlib.Core.Path.{_≡_, refl, sym, ap, _∙_}
+use mathlib.Core.Path.{refl, ap, _∙_}
 use lib.IntN.{ℤ}
 use native.Mathlib.Nat.{mod-lt}
 use native.Mathlib.Omega.{arith}
-use Rattle.coords.specs.Coords.{Few, remOf}
+use Rattle.coords.specs.Coords.{remOf}
 use Rattle.coords.proofs.Quick.{floored-above, floored-below, minus-above}
 use Rattle.coords.proofs.repeat_coord.Statement.{statement}
 use Rattle.coords.proofs.repeat_coord.Tie as tie

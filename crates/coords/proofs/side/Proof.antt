@@ -1,5 +1,4 @@
 use borrow.Author.Needs.{needs}
-use lib.Ieee.{ofBits}
 use Rattle.coords.proofs.Small.{side-pattern, side-is}
 use Rattle.coords.proofs.side.Statement.{statement}
 use Rattle.coords.proofs.side.Tie as tie

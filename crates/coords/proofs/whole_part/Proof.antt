@@ -1,9 +1,8 @@
-use mathlib.Core.Path.{_≡_, sym, subst}
+use mathlib.Core.Path.{sym, subst}
 use mathlib.Core.Logic.{⊎-elim}
 use Prim.Native.Nat.{ℕ, _<_, _^_}
 use lib.Ieee.{ofBits}
 use native.Mathlib.Omega.{arith}
-use borrow.Author.Needs.{needs}
 use Rattle.lists.proofs.Choice.{yes, no}
 use Rattle.coords.proofs.Quick.{quick, part-few}
 use Rattle.coords.proofs.whole_part.Statement.{statement}

@@ -1,6 +1,6 @@
 -- The invariant: m reaches the threshold at i. Assumes nothing.
 use Prim.Native.Nat.{ℕ, _-_, _≤_}
-use mathlib.Core.Path.{_≡_, refl, sym, subst}
+use mathlib.Core.Path.{_≡_, sym, subst}
 use native.Mathlib.Omega.{arith}
 use lib.Dec.{T}
 use Rattle.detail.specs.Steps.{Reached}

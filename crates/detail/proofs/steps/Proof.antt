@@ -1,5 +1,5 @@
 -- q is its significand times a power of two, and the significand's step is the table's. Assumes nothing.
-use Prim.Native.Nat.{ℕ, _+_, _-_, _*_, _/_, _%_, _^_, _≤_, _<_}
+use Prim.Native.Nat.{ℕ, _+_, _-_, _*_, _%_, _^_, _≤_, _<_}
 use mathlib.Core.Path.{_≡_, sym, subst}
 use mathlib.Core.Bool.{Bool, true}
 use lib.Dec.{T}

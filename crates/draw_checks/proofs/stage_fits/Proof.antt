@@ -1,4 +1,4 @@
-use mathlib.Core.Path.{refl, _∙_}
+use mathlib.Core.Path.{refl}
 use Rattle.lists.proofs.Choice.{yes, no}
 use borrow.Author.Tests.{lt-ltb, le-ltb}
 use Rattle.draw_checks.specs.Checks.{stageFits}

@@ -1,5 +1,5 @@
-use mathlib.Core.Path.{refl, sym, ap, _∙_}
-use Rattle.lists.proofs.Choice.{yes, no, stay, leave}
+use mathlib.Core.Path.{refl}
+use Rattle.lists.proofs.Choice.{no, stay, leave}
 use Rattle.draw_layouts.specs.Settings.{codesKnown}
 use borrow.Author.Needs.{needs}
 use Rattle.draw_layouts.proofs.are_codes_known.Statement.{statement}

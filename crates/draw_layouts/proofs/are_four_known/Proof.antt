@@ -1,6 +1,5 @@
 use borrow.Author.Tests.{not-true, not-false}
-use mathlib.Core.Path.{refl}
-use Rattle.lists.proofs.Choice.{yes, no, stay, leave}
+use Rattle.lists.proofs.Choice.{no}
 use Rattle.draw_layouts.proofs.are_four_known.Statement.{statement}
 use Rattle.draw_layouts.proofs.are_four_known.Tie as tie
 

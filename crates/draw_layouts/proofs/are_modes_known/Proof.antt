@@ -1,5 +1,5 @@
-use mathlib.Core.Path.{refl, sym, ap, _∙_}
-use Rattle.lists.proofs.Choice.{yes, no, stay, leave}
+use mathlib.Core.Path.{refl, ap, _∙_}
+use Rattle.lists.proofs.Choice.{no, stay, leave}
 use Rattle.draw_layouts.specs.Codes.{cullKnown, faceKnown, fogKnown}
 use Rattle.draw_layouts.specs.Settings.{modesKnown}
 use borrow.Author.Needs.{needs}

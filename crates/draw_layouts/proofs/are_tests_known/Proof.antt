@@ -1,6 +1,6 @@
-use mathlib.Core.Path.{refl, sym, ap, _∙_}
-use Rattle.lists.proofs.Choice.{yes, no, stay, leave}
-use Prim.Native.Nat.{ℕ, _+_, _-_}
+use mathlib.Core.Path.{refl, ap, _∙_}
+use Rattle.lists.proofs.Choice.{no, stay, leave}
+use Prim.Native.Nat.{ℕ, _-_}
 use Rattle.settings.specs.Settings.{readCompare, readFactor}
 use Rattle.draw_layouts.specs.Codes.{compareKnown, factorKnown}
 use Rattle.draw_layouts.specs.Settings.{testsKnown}

@@ -1,8 +1,8 @@
 use mathlib.Core.Path.{refl, sym, ap, _∙_}
-use Rattle.lists.proofs.Choice.{yes, no, stay, leave}
-use borrow.Author.Tests.{eq-eqb, ne-eqb, lt-ltb, le-ltb}
-use Prim.Native.Nat.{ℕ, _+_, _-_}
-use Rattle.draw_layouts.proofs.Signs.{low, minus-fits, high, back, back-at}
+use Rattle.lists.proofs.Choice.{yes, no}
+use borrow.Author.Tests.{eq-eqb, ne-eqb}
+use Prim.Native.Nat.{ℕ, _-_}
+use Rattle.draw_layouts.proofs.Signs.{back, back-at}
 use lib.Dec.{eqb}
 use Rattle.settings.specs.declared.Scissor.the-variants.{Within}
 use Rattle.draw_layouts.specs.Settings.{scissorOf}

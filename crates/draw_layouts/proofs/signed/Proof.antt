@@ -1,6 +1,6 @@
 use Prim.Native.Nat.{_-_}
 use native.Mathlib.Omega.{arith}
-use Rattle.draw_layouts.proofs.Signs.{low, minus-fits, high, back, back-at}
+use Rattle.draw_layouts.proofs.Signs.{low, minus-fits, high}
 use borrow.Author.Needs.{needs}
 use Rattle.draw_layouts.proofs.signed.Statement.{statement}
 use Rattle.draw_layouts.proofs.signed.Tie as tie

@@ -1,5 +1,5 @@
-use mathlib.Core.Path.{refl, sym, ap, _∙_}
-use Rattle.draw_layouts.proofs.Signs.{low, minus-fits, high, back, back-at}
+use mathlib.Core.Path.{ap, _∙_}
+use Rattle.draw_layouts.proofs.Signs.{back}
 use Rattle.draw_layouts.specs.Numbers.{signedOf, signedAt}
 use borrow.Author.Needs.{needs}
 use Rattle.draw_layouts.proofs.signed_at.Statement.{statement}

@@ -1,6 +1,6 @@
-use mathlib.Core.Path.{refl, sym, ap, _∙_}
-use Rattle.lists.proofs.Choice.{yes, no, stay, leave}
-use borrow.Author.Tests.{eq-eqb, ne-eqb, lt-ltb, le-ltb}
+use mathlib.Core.Path.{refl}
+use Rattle.lists.proofs.Choice.{yes, no}
+use borrow.Author.Tests.{lt-ltb, le-ltb}
 use Rattle.draw_layouts.specs.Stages.{stageOr}
 use borrow.Author.Needs.{needs}
 use Rattle.draw_layouts.proofs.stage_or.Statement.{statement}

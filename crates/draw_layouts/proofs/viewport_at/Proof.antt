@@ -1,4 +1,4 @@
-use Rattle.draw_layouts.proofs.Signs.{low, minus-fits, high, back, back-at}
+use Rattle.draw_layouts.proofs.Signs.{back, back-at}
 use Rattle.draw_layouts.specs.Settings.{viewportOf}
 use borrow.Author.Needs.{needs}
 use Rattle.draw_layouts.proofs.viewport_at.Statement.{statement}

@@ -1,6 +1,6 @@
-use mathlib.Core.Path.{refl, sym, ap, _∙_}
+use mathlib.Core.Path.{refl}
 use Rattle.lists.proofs.Choice.{yes, no}
-use Rattle.fragment.specs.Fragment.{linearFogOf, tiny32}
+use Rattle.fragment.specs.Fragment.{linearFogOf}
 use borrow.Author.Needs.{needs}
 use Rattle.fragment.proofs.linear_fog.Statement.{statement}
 use Rattle.fragment.proofs.linear_fog.Tie as tie

@@ -1,4 +1,3 @@
-use mathlib.Core.Path.{refl}
 use Rattle.gradients.specs.Gradients.{derivativesOf}
 use borrow.Author.Needs.{needs}
 use Rattle.gradients.proofs.derivatives.Statement.{statement}

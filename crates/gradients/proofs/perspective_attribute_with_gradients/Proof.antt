@@ -1,4 +1,3 @@
-use mathlib.Core.Path.{refl}
 use Rattle.gradients.specs.Gradients.{valueOf, attributeOf}
 use borrow.Author.Needs.{needs}
 use Rattle.gradients.proofs.perspective_attribute_with_gradients.Statement.{statement}

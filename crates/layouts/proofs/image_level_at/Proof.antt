@@ -1,7 +1,5 @@
-use mathlib.Core.Path.{_≡_, refl, sym, ap, _∙_}
+use mathlib.Core.Path.{_∙_}
 use native.Mathlib.Omega.{arith}
-use Rattle.levels.specs.Levels.{levelOf}
-use Rattle.layouts.specs.Records.{readTexture}
 use Rattle.layouts.proofs.Lone.{level-first, level-above}
 use borrow.Author.Needs.{needs}
 use Rattle.layouts.proofs.image_level_at.Statement.{statement}

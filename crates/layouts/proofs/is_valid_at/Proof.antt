@@ -1,8 +1,8 @@
-use mathlib.Core.Path.{_≡_, refl, sym, ap, _∙_}
+use mathlib.Core.Path.{refl, sym, _∙_}
 use borrow.Author.Tests.{eq-eqb}
 use Rattle.lists.proofs.Choice.{stay, leave}
 use lib.Dec.{eqb}
-use Rattle.levels.specs.Levels.{levelOf, fits, validOf}
+use Rattle.levels.specs.Levels.{levelOf, fits}
 use Rattle.layouts.specs.Words.{long}
 use Rattle.layouts.specs.Records.{readTexture, readOf}
 use Rattle.layouts.proofs.Lone.{lone-layout}

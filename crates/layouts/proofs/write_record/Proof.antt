@@ -1,5 +1,4 @@
-use mathlib.Core.Path.{_≡_, sym, ap, _∙_}
-use native.Mathlib.Omega.{arith}
+use mathlib.Core.Path.{_∙_}
 use Rattle.lists.specs.Lists.{flat}
 use Rattle.layouts.specs.Records.{levelBytesAt, restBytes, recordBytes}
 use Rattle.layouts.proofs.RoundTrip.{length-rest, levels-length}

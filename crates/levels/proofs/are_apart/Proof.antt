@@ -1,4 +1,4 @@
-use mathlib.Core.Path.{refl, sym, _∙_}
+use mathlib.Core.Path.{sym, _∙_}
 use Rattle.levels.proofs.Apart.{ascending-apart}
 use borrow.Author.Needs.{needs}
 use Rattle.levels.proofs.are_apart.Statement.{statement}

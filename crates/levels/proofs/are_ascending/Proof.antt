@@ -4,7 +4,7 @@ use native.Mathlib.Omega.{arith}
 use borrow.Author.Needs.{needs}
 use borrow.Author.Tests.{not-true, not-false}
 use lib.ListN.{drop}
-use Rattle.levels.specs.Levels.{absent, ascending}
+use Rattle.levels.specs.Levels.{ascending}
 use Rattle.levels.proofs.Valid.{fits-at}
 use Rattle.levels.proofs.Apart.{ascending-on, ascending-stop, ascending-end}
 use Rattle.levels.proofs.are_ascending.Statement.{statement}

@@ -3,7 +3,7 @@ use Prim.Native.Nat.{_-_, _≤_}
 use native.Mathlib.Omega.{arith}
 use borrow.Author.Needs.{needs}
 use lib.ListN.{drop}
-use Rattle.levels.specs.Levels.{absent, apart}
+use Rattle.levels.specs.Levels.{apart}
 use Rattle.levels.proofs.Valid.{fits-at}
 use Rattle.levels.proofs.Apart.{apart-on, apart-hit, apart-end}
 use Rattle.levels.proofs.are_pairs_apart.Statement.{statement}

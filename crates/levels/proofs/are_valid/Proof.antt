@@ -1,5 +1,5 @@
 use mathlib.Core.Path.{refl, sym, _∙_}
-use borrow.Author.Tests.{not-true, not-false}
+use borrow.Author.Tests.{not-false}
 use Rattle.lists.proofs.Choice.{stay, leave}
 use Rattle.levels.specs.Levels.{validLevels}
 use borrow.Author.Needs.{needs}

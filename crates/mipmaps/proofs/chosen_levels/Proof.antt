@@ -1,4 +1,4 @@
-use mathlib.Core.Path.{_∙_, refl, sym, ap}
+use mathlib.Core.Path.{_∙_, sym, ap}
 use borrow.Author.Needs.{needs}
 use Rattle.mipmaps.specs.Mipmaps.{chosenOf}
 use Rattle.mipmaps.proofs.Choices.{without-levels, without-mipmaps}

@@ -1,4 +1,4 @@
-use mathlib.Core.Path.{_∙_, refl, sym, ap}
+use mathlib.Core.Path.{_∙_, refl, sym}
 use borrow.Author.Needs.{needs}
 use Rattle.lists.proofs.Choice.{yes, no}
 use Rattle.mipmaps.specs.Mipmaps.{qAt, aboveOne}

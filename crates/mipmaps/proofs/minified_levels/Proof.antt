@@ -1,4 +1,4 @@
-use mathlib.Core.Path.{_∙_, refl}
+use mathlib.Core.Path.{_∙_}
 use borrow.Author.Needs.{needs}
 use Rattle.mipmaps.specs.Mipmaps.{minified}
 use Rattle.mipmaps.proofs.minified_levels.Statement.{statement}

@@ -1,6 +1,5 @@
-use mathlib.Core.Path.{refl, _∙_, sym}
+use mathlib.Core.Path.{_∙_, sym}
 use native.Mathlib.Omega.{arith}
-use borrow.Author.Tests.{not-true, not-false}
 use Rattle.pixels.specs.Way.{drawing}
 use Rattle.pixels.proofs.Fragments.{was-not, was-so}
 use Rattle.pixels.proofs.Pixels.{not-covered, dropped, kept}

@@ -1,5 +1,5 @@
 use lib.Seq.{set-getD}
-use mathlib.Core.Path.{refl, _∙_, sym}
+use mathlib.Core.Path.{sym}
 use Rattle.frames.specs.State.{pixelAt}
 use Rattle.pixels.specs.Way.{writtenOf}
 use borrow.Author.Needs.{needs}

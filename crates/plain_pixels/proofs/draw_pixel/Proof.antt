@@ -1,4 +1,4 @@
-use mathlib.Core.Path.{refl, _∙_, sym}
+use mathlib.Core.Path.{_∙_, sym}
 use mathlib.Core.List.{[]}
 use native.Mathlib.Omega.{arith}
 use Rattle.pixels.specs.Way.{drawing}

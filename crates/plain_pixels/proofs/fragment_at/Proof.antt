@@ -1,4 +1,4 @@
-use mathlib.Core.Path.{refl, _∙_}
+use mathlib.Core.Path.{_∙_}
 use mathlib.Core.List.{[]}
 use Rattle.lists.specs.Lists.{iter}
 use Rattle.stages.specs.Stages.{stagesColor}

@@ -1,6 +1,4 @@
-use Prim.Native.Nat.{_*_, _≤_}
-use mathlib.Core.Path.{_≡_, refl, sym, _∙_}
-use native.Mathlib.Omega.{arith}
+use mathlib.Core.Path.{sym, _∙_}
 use lib.Ieee.{nan}
 use lib.Dec.{lit<}
 use borrow.Author.Needs.{needs}

@@ -3,7 +3,7 @@ use Prim.Native.Nat.{_≤_, _-_}
 use mathlib.Core.Path.{_≡_, refl, sym, _∙_}
 use native.Mathlib.Omega.{arith}
 use lib.ListN.{length, drop}
-use Rattle.replay.specs.Record.{stepOf, sumOf}
+use Rattle.replay.specs.Record.{sumOf}
 use Rattle.replay.proofs.Sums.{sum-on, sum-end}
 use Rattle.replay.proofs.sum_bytes.Statement.{statement}
 use Rattle.replay.proofs.sum_bytes.Tie as tie

@@ -1,5 +1,5 @@
 use borrow.Author.Needs.{needs}
-use mathlib.Core.Path.{refl, sym}
+use mathlib.Core.Path.{sym}
 use Rattle.replay.specs.Record.{word16Of}
 use Rattle.replay.proofs.Words.{none16}
 use Rattle.replay.proofs.u16_at.Statement.{statement}

@@ -1,7 +1,6 @@
 -- `load_floats` is safe and ends. The invariant: the length stays. Assumes nothing.
-use Prim.Native.Nat.{_-_, _≤_}
+use Prim.Native.Nat.{_-_}
 use mathlib.Core.Path.{_≡_, refl}
-use native.Mathlib.Omega.{arith}
 use lib.ListN.{length, length-set}
 use borrow.Author.Needs.{needs}
 use Rattle.replay_draw.proofs.load_floats.Statement.{statement}

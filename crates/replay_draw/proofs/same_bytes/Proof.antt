@@ -1,8 +1,7 @@
 -- `same_bytes` is safe and ends: what is left to compare falls. Assumes nothing.
-use Prim.Native.Nat.{_-_, _≤_}
+use Prim.Native.Nat.{_-_}
 use mathlib.Core.Path.{_≡_, refl}
-use native.Mathlib.Omega.{arith}
-use lib.ListN.{length, length-set}
+use lib.ListN.{length}
 use borrow.Author.Needs.{needs}
 use Rattle.replay_draw.proofs.same_bytes.Statement.{statement}
 use Rattle.replay_draw.proofs.same_bytes.Tie as tie

@@ -1,8 +1,7 @@
 -- `same_floats` is safe and ends: what is left to compare falls. Assumes nothing.
-use Prim.Native.Nat.{_-_, _≤_}
+use Prim.Native.Nat.{_-_}
 use mathlib.Core.Path.{_≡_, refl}
-use native.Mathlib.Omega.{arith}
-use lib.ListN.{length, length-set}
+use lib.ListN.{length}
 use borrow.Author.Needs.{needs}
 use Rattle.replay_draw.proofs.same_floats.Statement.{statement}
 use Rattle.replay_draw.proofs.same_floats.Tie as tie

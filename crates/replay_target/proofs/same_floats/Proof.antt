@@ -1,7 +1,6 @@
-use Prim.Native.Nat.{_-_, _≤_}
+use Prim.Native.Nat.{_-_}
 use mathlib.Core.Path.{_≡_, refl}
-use native.Mathlib.Omega.{arith}
-use lib.ListN.{length, length-set}
+use lib.ListN.{length}
 use borrow.Author.Needs.{needs}
 use Rattle.replay_target.proofs.same_floats.Statement.{statement}
 use Rattle.replay_target.proofs.same_floats.Tie as tie

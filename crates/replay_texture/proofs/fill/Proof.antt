@@ -1,5 +1,5 @@
 -- `fill` is safe and ends: what is left of the output falls. The invariant: the length stays, and the next value fits. Assumes nothing.
-use Prim.Native.Nat.{_-_, _≤_, _<_}
+use Prim.Native.Nat.{_-_, _≤_}
 use mathlib.Core.Path.{_≡_, refl}
 use native.Mathlib.Omega.{arith}
 use lib.ListN.{length, length-set}

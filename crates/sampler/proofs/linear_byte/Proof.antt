@@ -1,6 +1,4 @@
-use mathlib.Core.Path.{refl}
 use borrow.Author.Needs.{needs}
-use lib.Ieee.{ofInt}
 use Rattle.sampler.specs.Texels.{linearByte}
 use Rattle.sampler.proofs.linear_byte.Statement.{statement}
 use Rattle.sampler.proofs.linear_byte.Tie as tie

@@ -1,4 +1,3 @@
-use mathlib.Core.Path.{_∙_}
 use borrow.Author.Needs.{needs}
 use Rattle.sampler.specs.Texels.{linearTexel}
 use Rattle.sampler.proofs.linear_texel.Statement.{statement}

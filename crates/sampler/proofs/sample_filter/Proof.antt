@@ -1,8 +1,5 @@
-use Prim.Native.Nat.{ℕ}
-use mathlib.Core.Path.{_∙_, sym, subst}
-use mathlib.Core.List.{List}
+use mathlib.Core.Path.{_∙_}
 use borrow.Author.Needs.{needs}
-use Rattle.sampler.specs.Samples.{Image}
 use Rattle.sampler.proofs.Parts.{level-image, nearest-is, linear-is}
 use Rattle.sampler.proofs.sample_filter.Statement.{statement}
 use Rattle.sampler.proofs.sample_filter.Tie as tie

@@ -1,10 +1,6 @@
-use Prim.Native.Nat.{ℕ}
-use mathlib.Core.Path.{_∙_, sym, subst}
-use native.Mathlib.Omega.{arith}
+use mathlib.Core.Path.{_∙_}
 use borrow.Author.Needs.{needs}
 use Rattle.levels.specs.Levels.{levelOf, levelsOf}
-use Rattle.mipmaps.specs.declared.Chosen.{Chosen}
-use Rattle.mipmaps.specs.Mipmaps.{Within}
 use Rattle.mipmaps.proofs.Choices.{chosen-within}
 use Rattle.sampler.specs.Addresses.{levelsFor}
 use Rattle.sampler.proofs.Records.{no-width, no-height, both-sides, readable}

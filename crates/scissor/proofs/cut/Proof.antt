@@ -1,7 +1,5 @@
-use mathlib.Core.Path.{ap, _∙_}
-use lib.IntN.{_+ℤ_}
 use borrow.Author.Needs.{needs}
-use Rattle.scissor.specs.Scissor.{fromZero, cutOf}
+use Rattle.scissor.specs.Scissor.{cutOf}
 use Rattle.scissor.proofs.Signs.{back32}
 use Rattle.scissor.proofs.cut.Statement.{statement}
 use Rattle.scissor.proofs.cut.Tie as tie

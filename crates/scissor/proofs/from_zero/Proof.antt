@@ -1,4 +1,3 @@
-use lib.Signed.{mag}
 use native.Mathlib.Omega.{arith}
 use Rattle.scissor.proofs.Signs.{back32, below-zero, not-below, number-is}
 use Rattle.scissor.proofs.from_zero.Statement.{statement}

@@ -1,4 +1,3 @@
-use mathlib.Core.Path.{refl}
 use borrow.Author.Needs.{needs}
 use Rattle.screen.proofs.is_front.Statement.{statement}
 use Rattle.screen.proofs.is_front.Tie as tie

@@ -1,7 +1,5 @@
-use mathlib.Core.Path.{refl, sym, ap, _∙_}
+use mathlib.Core.Path.{sym, _∙_}
 use borrow.Author.Tests.{not-true, not-false}
-use Rattle.screen.specs.declared.Corner.the-variants.{Kept}
-use Rattle.screen.specs.declared.ScreenVertex.{ScreenVertex}
 use Rattle.screen.specs.Screen.{screenOf}
 use Rattle.screen.proofs.Corners.{corner-w, corner-ndc, corner-kept}
 use borrow.Author.Needs.{needs}

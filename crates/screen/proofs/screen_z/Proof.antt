@@ -1,4 +1,3 @@
-use mathlib.Core.Path.{refl}
 use Rattle.screen.specs.Screen.{zOf}
 use borrow.Author.Needs.{needs}
 use Rattle.screen.proofs.screen_z.Statement.{statement}

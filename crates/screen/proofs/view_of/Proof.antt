@@ -1,4 +1,3 @@
-use mathlib.Core.Path.{refl}
 use mir.Syntax.{w32}
 use mir.ValLaws.{toZ-ofZ}
 use Rattle.screen.specs.Screen.{viewOf}

@@ -1,6 +1,4 @@
-use mathlib.Core.Path.{refl}
 use borrow.Author.Tests.{lt-ltb, le-ltb}
-use Rattle.scissor.specs.Scissor.{boxOf}
 use borrow.Author.Needs.{needs}
 use Rattle.setup.proofs.box_of.Statement.{statement}
 use Rattle.setup.proofs.box_of.Tie as tie

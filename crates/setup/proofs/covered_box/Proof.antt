@@ -1,4 +1,3 @@
-use mathlib.Core.Path.{refl}
 use Rattle.setup.specs.Box.{coveredOf}
 use borrow.Author.Needs.{needs}
 use Rattle.setup.proofs.covered_box.Statement.{statement}

@@ -1,5 +1,4 @@
 use Prim.{tt}
-use mathlib.Core.Path.{refl}
 use lib.Ieee.{nanBits}
 use Rattle.setup.specs.Box.{leastOf}
 use borrow.Author.Needs.{needs}

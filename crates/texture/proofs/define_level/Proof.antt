@@ -1,7 +1,7 @@
-use mathlib.Core.Path.{_≡_, refl, sym, ap, _∙_}
+use mathlib.Core.Path.{sym, ap, _∙_}
 use native.Mathlib.Omega.{arith}
 use Rattle.answers.specs.Numbers.{numberOf}
-use Rattle.texture.specs.Define.{outcome, defineOf, defineStore}
+use Rattle.texture.specs.Define.{defineOf, defineStore}
 use Rattle.texture.proofs.Defining.{sound, refused-number, settle-done, settle-refused}
 use borrow.Author.Needs.{needs}
 use Rattle.texture.proofs.define_level.Statement.{statement}

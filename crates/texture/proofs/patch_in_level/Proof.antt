@@ -1,4 +1,4 @@
-use mathlib.Core.Path.{_≡_, refl, sym, ap, _∙_}
+use mathlib.Core.Path.{sym, ap, _∙_}
 use Rattle.answers.specs.Numbers.{numberOf}
 use Rattle.texture.proofs.Defining.{refused-number}
 use Rattle.texture.proofs.Patching.{rectangle-sound, patch-done, patch-refused}

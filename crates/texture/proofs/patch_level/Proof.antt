@@ -1,9 +1,8 @@
 use mathlib.Core.Path.{_≡_, refl, sym, ap, _∙_}
 use mathlib.Core.Bool.{true, false}
-use lib.ListN.{length}
 use borrow.Author.Tests.{not-true, not-false, lt-ltb, le-ltb}
 use Rattle.levels.specs.declared.MipLevel.{MipLevel}
-use Rattle.levels.specs.Levels.{levelOf, validOf}
+use Rattle.levels.specs.Levels.{levelOf}
 use Rattle.levels.proofs.Valid.{valid-level}
 use Rattle.texture.specs.Patch.{patchCheck, settlePatch, patchOf}
 use Rattle.texture.proofs.Patching.{patch-within}

@@ -1,4 +1,4 @@
-use mathlib.Core.Path.{refl, sym, ap, _∙_}
+use mathlib.Core.Path.{sym, ap, _∙_}
 use borrow.Author.Tests.{eq-eqb, ne-eqb}
 use Rattle.texture.proofs.Setting.{sets-min, sets-mag, sets-wrap-s, sets-wrap-t, sets-nothing, sets-refused}
 use borrow.Author.Needs.{needs}

@@ -1,7 +1,4 @@
-use mathlib.Core.Path.{refl, sym}
-use mathlib.Core.Bool.{cond}
 use borrow.Author.Tests.{lt-ltb, le-ltb, eq-eqb, ne-eqb}
-use Rattle.lists.proofs.Choice.{yes, no}
 use Rattle.texture.specs.Define.{stays}
 use Rattle.texture.proofs.stay_at.Statement.{statement}
 use Rattle.texture.proofs.stay_at.Tie as tie

@@ -1,5 +1,4 @@
 use Rattle.vertices.specs.Vertex.{mix4}
-use mathlib.Core.Path.{refl}
 use borrow.Author.Needs.{needs}
 use Rattle.vertices.proofs.lerp4.Statement.{statement}
 use Rattle.vertices.proofs.lerp4.Tie as tie

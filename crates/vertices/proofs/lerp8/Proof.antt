@@ -1,5 +1,4 @@
 use Rattle.vertices.specs.Vertex.{mix8}
-use mathlib.Core.Path.{refl}
 use borrow.Author.Needs.{needs}
 use Rattle.vertices.proofs.lerp8.Statement.{statement}
 use Rattle.vertices.proofs.lerp8.Tie as tie

@@ -1,5 +1,4 @@
 use Rattle.vertices.specs.Vertex.{lerp}
-use mathlib.Core.Path.{refl}
 use borrow.Author.Needs.{needs}
 use Rattle.vertices.proofs.lerp_vertex.Statement.{statement}
 use Rattle.vertices.proofs.lerp_vertex.Tie as tie

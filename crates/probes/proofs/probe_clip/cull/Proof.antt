@@ -1,4 +1,3 @@
-use mathlib.Core.Path.{refl}
 use borrow.Author.Tests.{ne-eqb}
 use Rattle.probes.specs.Told.{cullOf}
 use Rattle.probes.proofs.probe_clip.cull.Statement.{statement}

@@ -1,4 +1,3 @@
-use mathlib.Core.Path.{refl, _∙_}
 use borrow.Author.Needs.{needs}
 use Rattle.probes.proofs.probe_clip.probe_attribute.Statement.{statement}
 use Rattle.probes.proofs.probe_clip.probe_attribute.Tie as tie

@@ -1,4 +1,4 @@
-use mathlib.Core.Path.{refl, _∙_}
+use mathlib.Core.Path.{_∙_}
 use borrow.Author.Needs.{needs}
 use Rattle.probes.proofs.probe_clip.probe_clip_triangle.Statement.{statement}
 use Rattle.probes.proofs.probe_clip.probe_clip_triangle.Tie as tie

@@ -1,4 +1,4 @@
-use mathlib.Core.Path.{refl, _∙_}
+use mathlib.Core.Path.{_∙_}
 use borrow.Author.Needs.{needs}
 use Rattle.probes.proofs.probe_clip.setup_from.Statement.{statement}
 use Rattle.probes.proofs.probe_clip.setup_from.Tie as tie

@@ -1,4 +1,3 @@
-use mathlib.Core.Path.{refl}
 use borrow.Author.Needs.{needs}
 use Rattle.probes.proofs.probe_clip.tell.Statement.{statement}
 use Rattle.probes.proofs.probe_clip.tell.Tie as tie

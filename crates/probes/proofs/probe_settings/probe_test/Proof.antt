@@ -1,5 +1,3 @@
-use mathlib.Core.Path.{ap, _∙_}
-use Rattle.probes.specs.Settings.{compareOr}
 use borrow.Author.Needs.{needs}
 use Rattle.probes.proofs.probe_settings.probe_test.Statement.{statement}
 use Rattle.probes.proofs.probe_settings.probe_test.Tie as tie

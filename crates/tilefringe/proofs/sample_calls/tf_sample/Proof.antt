@@ -1,4 +1,4 @@
-use mathlib.Core.Path.{_≡_, refl, sym, ap, _∙_}
+use mathlib.Core.Path.{refl, sym, ap, _∙_}
 use Rattle.lists.proofs.Choice.{stay, leave}
 use Rattle.layouts.specs.declared.RecordRead.{RecordRead}
 use Rattle.sampler.specs.Samples.{Outcome, outcomeOf, sampleCall}

@@ -7,7 +7,7 @@ use lib.ListN.{length}
 use borrow.Author.Tests.{not-true, not-false, lt-ltb, le-ltb}
 use Rattle.lists.proofs.Choice.{leave}
 use Rattle.levels.specs.declared.MipLevel.{MipLevel}
-use Rattle.levels.specs.Levels.{levelOf, validOf}
+use Rattle.levels.specs.Levels.{levelOf}
 use Rattle.levels.proofs.Valid.{valid-level}
 use Rattle.texture.specs.Patch.{patchCheck, settlePatch, patchOf}
 use Rattle.texture.proofs.Patching.{patch-within}

@@ -1,5 +1,5 @@
 use mathlib.Core.Path.{refl, sym, ap, _∙_}
-use Rattle.lists.proofs.Choice.{yes, no}
+use Rattle.lists.proofs.Choice.{no}
 use Rattle.answers.specs.Numbers.{numberOf}
 use Rattle.texture.proofs.Defining.{refused-number}
 use Rattle.tilefringe.specs.TextureCalls.{written}
