@@ -1,4 +1,4 @@
--- The layouts of a draw, written: the words of the settings, of a stage and of a vertex, and their bytes.
+-- The layouts of a draw (docs/INTERFACE.md, Draw), written: the words of the settings, of a stage and of a vertex, and their bytes.
 use Prim.Native.Nat.{ℕ, _-_, _/_, _%_}
 use mathlib.Core.Bool.{Bool, true, false, cond}
 use mathlib.Core.List.{List, [], _∷_}

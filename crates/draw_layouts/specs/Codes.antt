@@ -1,4 +1,4 @@
--- Which codes a draw's layouts may hold, and what they stand for. A code that stands for nothing makes the layout no layout.
+-- Which codes a draw's layouts may hold (docs/INTERFACE.md, Draw), and what they stand for. A code that stands for nothing makes the layout no layout.
 use Prim.Native.Nat.{ℕ}
 use mathlib.Core.Bool.{Bool, true, false, cond}
 use lib.Dec.{eqb}

@@ -1,4 +1,4 @@
--- Numbers in the layouts of a draw: a word's signed number, a float from its bits, a switch, a colour.
+-- Numbers in the layouts of a draw (docs/INTERFACE.md, Draw): a word's signed number, a float from its bits, a switch, a colour.
 use Prim.Native.Nat.{ℕ, _+_, _-_}
 use mathlib.Core.Bool.{Bool, cond, not}
 use mathlib.Core.List.{List, [], _∷_}

@@ -1,5 +1,5 @@
 -- A draw past its checks, as a list of fragments: each pixel of the box of each triangle that clipping leaves, in the order of
--- raster/specs/Fill.antt.
+-- raster/specs/Fill.antt (raster.rs, draw_triangle and raster_clipped).
 use Prim.Native.Nat.{ℕ, _+_, _*_}
 use mathlib.Core.Bool.{cond}
 use mathlib.Core.List.{List, [], _∷_, _++_}

@@ -1,4 +1,5 @@
--- What becomes of one pixel in a draw: its own fragments, one after the other, from its own colour and depth.
+-- What becomes of one pixel in a draw: its own fragments, one after the other, from its own colour and depth: document 01,
+-- port order 7.
 use Prim.Native.Nat.{ℕ, zero, suc, _+_}
 use mathlib.Core.Bool.{cond}
 use mathlib.Core.Option.{Option, none, some}

@@ -1,4 +1,4 @@
--- DEMAND 3. Lists of clear colour, clear depth, draw, define, patch and set a parameter, by any number of guests, refused ones too.
+-- Document 01, DEMAND 3 in full: lists of clear colour, clear depth, draw, define, patch and set a parameter, by any number of guests, refused ones too.
 use mathlib.Core.List.{List}
 use Rattle.settings.specs.declared.ScissorBox.{ScissorBox}
 use Rattle.isolation.specs.Machine.{Guest, Turn}

@@ -1,4 +1,5 @@
--- A machine that several guests call in turn, a guest that has the machine for itself, and what it means that the two do the same.
+-- A machine that several guests call in turn, a guest that has the machine for itself, and what it means that the two do the same:
+-- document 01, Demand 3 in full.
 -- Nothing here knows frames or textures: `frames` and `guests` say what a state is, what its places are and what the calls do.
 use mathlib.Core.Path.{_≡_}
 use mathlib.Core.Logic.{_⊎_}

@@ -1,4 +1,4 @@
--- Numbers in a byte layout, the low byte first.
+-- Numbers in a byte layout, the low byte first: docs/INTERFACE.md.
 use Prim.Native.Nat.{ℕ, _+_, _*_, _/_, _%_}
 use mathlib.Core.List.{List}
 use lib.ListN.{getD}

@@ -1,4 +1,4 @@
--- What a draw answers and leaves, over the layouts that the C interface is handed.
+-- What a draw answers and leaves, over the layouts that the C interface is handed: docs/INTERFACE.md, Draw.
 use Prim.Native.Nat.{ℕ, _*_}
 use mathlib.Core.Bool.{Bool, false, cond}
 use mathlib.Core.List.{List}

@@ -1,4 +1,4 @@
--- What a sample answers and leaves, over a record's layout and the store.
+-- What a sample answers and leaves, over a record's layout and the store: docs/INTERFACE.md, Sampling.
 use mathlib.Core.Bool.{cond}
 use mathlib.Core.List.{List}
 use Prim.Native.Nat.{ℕ, _+_, _*_}

@@ -1,4 +1,4 @@
--- The scissor as the C interface hands it over.
+-- The scissor as the C interface hands it over: docs/INTERFACE.md, Clears, export and codes.
 use Prim.Native.Nat.{ℕ}
 use mathlib.Core.Bool.{cond}
 use lib.Dec.{eqb}

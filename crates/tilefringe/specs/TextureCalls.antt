@@ -1,4 +1,4 @@
--- What the calls on texture objects answer and leave, over a record's layout and the store.
+-- What the calls on texture objects answer and leave, over a record's layout and the store: docs/INTERFACE.md, Texture record.
 use mathlib.Core.Bool.{cond}
 use mathlib.Core.List.{List, []}
 use Prim.Native.Nat.{ℕ}
