@@ -40,8 +40,11 @@ record: lib
 
 ARCHIVE = target/staticlib/libtilefringe.a
 
-$(ARCHIVE):
-	@rt staticlib tilefringe
+# What the proofs say goes to log/lib, and a line a crate to standard error, so that what is run with the archive has standard output to itself.
+$(ARCHIVE): $(shell find crates -name '*.rt' -o -name '*.antt') crates.txt
+	@mkdir -p log
+	@{ s=0; rt staticlib tilefringe 2>&1 || s=$$?; echo $$s > log/lib.status; } | tee log/lib | grep --line-buffered '^rt:' >&2; \
+	[ "$$(cat log/lib.status)" = 0 ] || { cat log/lib >&2; exit 1; }
 
 # The header is for C99 and for C++: the guest is built as both.
 WARNINGS = -Wall -Wextra -Werror -pedantic
