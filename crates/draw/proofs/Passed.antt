@@ -1,10 +1,13 @@
 -- Which way a draw takes. Assumes nothing.
-use mathlib.Core.Path.{_≡_}
-use mathlib.Core.Bool.{true, false}
+use mathlib.Core.Path.{_≡_, refl, _∙_}
+use mathlib.Core.Bool.{Bool, true, false, cond}
 use mathlib.Core.List.{List}
 use Prim.Native.Nat.{ℕ}
+use lib.Dec.{eqb}
 use lib.ListN.{length}
 use lib.Ieee.{Float}
+use borrow.Author.Tests.{eqb-true}
+use Rattle.lists.proofs.Choice.{no}
 use Rattle.answers.specs.declared.Refusal.{Refusal}
 use Rattle.answers.specs.Numbers.{refusalNumber}
 use Rattle.answers.proofs.Answered.{refused-test}
@@ -21,6 +24,14 @@ use Rattle.pixels.specs.Way.{Drawing, drawing, drawnTo}
 use Rattle.raster.specs.Fill.{leftDrawn, drawnOf}
 use Rattle.draw_checks.specs.Checks.{earlyCheck, lateCheck}
 use Rattle.draw.specs.Draw.{drawArgs, boundTo, drawCheck, drawPassed, outcome, drewAll, drawOf}
+
+-- two checks, the second only where the first gives 0: where both give 0 the first does
+pub zero-first : (n m : ℕ) → cond (eqb n 0) m n ≡ 0 → n ≡ 0
+zero-first n m e = go (eqb n 0) refl
+  where
+    go : (b : Bool) → eqb n 0 ≡ b → n ≡ 0
+    go true h = eqb-true n 0 h
+    go false h = no m h refl ∙ e
 
 -- ---- past the checks
 

@@ -1,13 +1,11 @@
 -- A draw without a stage: it is the same whatever its stages, records and texels are. Assumes nothing.
-use mathlib.Core.Path.{_≡_, refl, _∙_}
-use mathlib.Core.Bool.{Bool, true, false, cond}
+use mathlib.Core.Path.{_≡_, refl}
+use mathlib.Core.Bool.{true, cond}
 use mathlib.Core.List.{List, []}
 use Prim.Native.Nat.{ℕ, zero}
-use lib.Dec.{eqb}
 use lib.ListN.{length}
 use lib.Ieee.{Float}
 use Rattle.lists.specs.Lists.{iter, flat, between}
-use borrow.Author.Tests.{eqb-true}
 use Rattle.lists.proofs.Choice.{no}
 use Rattle.answers.specs.declared.Refusal.{Refusal}
 use Rattle.answers.specs.Numbers.{refusalNumber}
@@ -34,14 +32,8 @@ use Rattle.pixels.specs.Way.{drawing, drawnTo, shadedOf, fragmentOf, fragAt, pi
 use Rattle.raster.specs.Fill.{primitiveOf, rowOf, fillOf, fillBy, setupFor, rasterOf, leftDrawn, inBoundsDrawn, drawnOf}
 use Rattle.draw_checks.specs.Checks.{allBelow, stagesFit, recordsFit, verticesFit, earlyCheck, lateCheck}
 use Rattle.draw_checks.proofs.Passed.{early-target}
+use Rattle.draw.proofs.Passed.{zero-first}
 use Rattle.draw.specs.Draw.{drawArgs, boundTo, drawCheck, drawPassed, outcome, drewAll, drawOf}
-
-pub zero-first : (n m : ℕ) → cond (eqb n 0) m n ≡ 0 → n ≡ 0
-zero-first n m e = go (eqb n 0) refl
-  where
-    go : (b : Bool) → eqb n 0 ≡ b → n ≡ 0
-    go true h = eqb-true n 0 h
-    go false h = no m h refl ∙ e
 
 -- ---- the draw past its checks
 

@@ -1,11 +1,12 @@
 -- What becomes of each pixel of the frame in a draw: its own fragments in order, from its own colour and depth and the texels that
 -- they take. The draw's count is the sum of all pixels' writes. Assumes nothing.
-use mathlib.Core.Path.{_≡_, refl, sym, ap, _∙_}
-use mathlib.Core.Bool.{Bool, true, false, cond, true≢false}
+use mathlib.Core.Path.{_≡_, ap, _∙_}
+use mathlib.Core.Bool.{true}
 use mathlib.Core.List.{List}
 use Prim.Native.Nat.{ℕ, _+_, _*_, _≤_, _<_}
 use native.Mathlib.Omega.{arith}
 use lib.Dec.{eqb}
+use borrow.Author.Tests.{eqb-true, eq-eqb}
 use lib.ListN.{length}
 use Rattle.scissor.specs.Check.{targetFits}
 use Rattle.scissor.proofs.Outcome.{target-is}
@@ -13,6 +14,7 @@ use Rattle.frames.specs.State.{pixelAt, drew}
 use Rattle.frames.specs.Gather.{Drawn}
 use Rattle.pixels.specs.Way.{Drawing, drawnTo}
 use Rattle.draw.specs.Draw.{drawCheck, drawPassed, drawOf}
+use Rattle.draw.proofs.Passed.{zero-first}
 use Rattle.draw_reads.specs.Items.{Item, drawItems}
 use Rattle.draw_reads.specs.Pixels.{fragmentsAt, pixelAfter, pixelWrites, total}
 use Rattle.draw_reads.proofs.Runs.{draw-runs, items-within}
@@ -32,17 +34,10 @@ draw-pixel x s p e f g =
     rw e (drawn-pixel (s .store) (drawingOf x (s .textures)) (s .width) (s .height) (x .args .a) (x .args .b) (x .args .c) (s .colors) (s .depths) 0 p f g)
 
 -- where 1 takes the target, the pixels that have a depth have their bytes, and the fragments lie among them
-early-of : (a b : ℕ) → eqb (cond (eqb a 0) b a) 0 ≡ true → eqb a 0 ≡ true
-early-of a b e = go (eqb a 0) refl e
-  where
-    go : (y : Bool) → eqb a 0 ≡ y → eqb (cond y b a) 0 ≡ true → y ≡ true
-    go true p k = refl
-    go false p k = absurd (true≢false (sym k ∙ p))
-
 module _ (x : DrawCall) (s : Shared) (e : eqb (drawNumber x s) 0 ≡ true) where
   fits : targetFits (s .width) (s .height) (length (s .colors)) (length (s .depths)) ≡ true
   unfolding drawCheck
-  fits = laws x .early-fits s (early-of (earlyNumber x s) (lateNumber x s) e)
+  fits = laws x .early-fits s (eq-eqb _ 0 (zero-first (earlyNumber x s) (lateNumber x s) (eqb-true _ 0 e)))
 
   on-frame : (p : ℕ) → p < length (s .depths) → (p * 4 + 4 ≤ length (s .colors)) × (p < length (s .depths))
   on-frame p b =

@@ -18,7 +18,7 @@ use Rattle.pixels.specs.Way.{drawing}
 use Rattle.draw_checks.specs.Checks.{earlyCheck, lateCheck}
 use Rattle.draw.specs.Draw.{DrawArgs, Outcome, outcome, drewAll, boundTo, drawCheck, drawPassed, drawOf}
 use Rattle.draw_checks.proofs.Passed.{early-target}
-use Rattle.draw.proofs.Unstaged.{zero-first}
+use Rattle.draw.proofs.Passed.{zero-first}
 use Rattle.draw_reads.proofs.Few.{count-few}
 use Rattle.draw_layouts.specs.Units.{readUnits}
 use Rattle.draw_layouts.specs.Settings.{readSettings}

@@ -4,65 +4,22 @@ use mathlib.Core.Path.{_≡_}
 use mathlib.Core.Bool.{Bool, true, false}
 use mathlib.Core.List.{List, [], _∷_}
 use Prim.Native.Nat.{ℕ, _*_}
-use lib.IntN.{pos}
 use lib.ListN.{replicate, getD}
 use lib.Ieee as Ieee
 use lib.Ieee.{Float, nan, binary32}
 use Rattle.floats.specs.Num.{zero32, half32, one32}
 use Rattle.settings.specs.declared.Scissor.the-variants.{Whole}
-use Rattle.settings.specs.declared.CompareFunc.the-variants as C
-use Rattle.settings.specs.declared.BlendFactor.the-variants as B
-use Rattle.settings.specs.declared.Cull.the-variants.{Off}
-use Rattle.settings.specs.declared.FrontFace.the-variants.{Ccw}
-use Rattle.settings.specs.declared.FogMode.the-variants.{Exp}
-use Rattle.settings.specs.declared.PipelineState.{PipelineState}
-use Rattle.settings.specs.Settings.{black}
 use Rattle.vertices.specs.declared.Vertex.{Vertex}
 use Rattle.frames.specs.State.{drew}
 use Rattle.draw.specs.Draw.{Outcome, drawArgs, drawOf}
-use Rattle.worked_draws.specs.Worked.{minusOne}
-
-abbrev pub cornerAt : Float → Float → Float → Float → Vertex
-cornerAt x y z w = record {
-  pos = x ∷ y ∷ z ∷ w ∷ [];
-  color = one32 ∷ one32 ∷ one32 ∷ one32 ∷ [];
-  texcoord = zero32 ∷ zero32 ∷ zero32 ∷ zero32 ∷ zero32 ∷ zero32 ∷ zero32 ∷ zero32 ∷ [];
-  «fog_depth» = zero32;
-}
-
--- the default settings, whose comparison is Less, with the target as viewport
-abbrev pub settingsOf : ℕ → ℕ → Bool → PipelineState
-settingsOf width height tested = record {
-  viewport = record { x = pos 0; y = pos 0; width = pos width; height = pos height };
-  «depth_range» = record { near = zero32; far = one32 };
-  scissor = Whole;
-  «depth_test» = tested;
-  «depth_func» = C.Less;
-  «depth_write» = true;
-  «alpha_test» = false;
-  «alpha_func» = C.Always;
-  «alpha_ref» = zero32;
-  blend = false;
-  «blend_src» = B.One;
-  «blend_dst» = B.Zero;
-  cull = Off;
-  «front_face» = Ccw;
-  «color_mask» = record { r = true; g = true; b = true; a = true };
-  fog = false;
-  «fog_mode» = Exp;
-  «fog_color» = black;
-  «fog_start» = zero32;
-  «fog_end» = one32;
-  «fog_density» = one32;
-  «smooth_shading» = true;
-}
+use Rattle.worked_draws.specs.Worked.{minusOne, cornerAt, settingsOf}
 
 -- a target of so many pixels on which the depths were cleared to 1
 abbrev pub clearedTo1 : ℕ → List Float
 clearedTo1 n = replicate n one32
 
 abbrev pub drawOn : ℕ → ℕ → Bool → Vertex → Vertex → Vertex → List Float → Outcome
-drawOn width height tested a b c ds = drawOf [] width height (drawArgs (settingsOf width height tested) [] 0 a b c) [] (replicate (4 * (width * height)) 0) ds
+drawOn width height tested a b c ds = drawOf [] width height (drawArgs (settingsOf width height Whole tested) [] 0 a b c) [] (replicate (4 * (width * height)) 0) ds
 
 -- 01's two triangles on 2 by 2 pixels, which share an edge
 abbrev pub firstHalf : Bool → List Float → Outcome

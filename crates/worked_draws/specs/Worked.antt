@@ -1,7 +1,7 @@
 -- A worked list of calls by three guests that meets the premises, with textured draws under a depth test and a refused call of each
 -- kind. A frame of 2 by 1 pixels and a store of three texels.
 use mathlib.Core.Path.{_≡_}
-use mathlib.Core.Bool.{true, false, cond}
+use mathlib.Core.Bool.{Bool, true, false, cond}
 use mathlib.Core.List.{List, [], _∷_}
 use Prim.Native.Nat.{ℕ}
 use lib.Dec.{eqb}
@@ -11,13 +11,14 @@ use lib.Ieee as Ieee
 use lib.Ieee.{Float, nan, binary32}
 use Rattle.consts.specs.Codes.{«GL_TEXTURE_MAG_FILTER», «GL_NEAREST»}
 use Rattle.floats.specs.Num.{zero32, one32}
+use Rattle.settings.specs.declared.Scissor.{Scissor}
 use Rattle.settings.specs.declared.Scissor.the-variants.{Whole, Within}
 use Rattle.settings.specs.declared.ScissorBox.{ScissorBox}
 use Rattle.settings.specs.declared.CompareFunc.the-variants as C
 use Rattle.settings.specs.declared.BlendFactor.the-variants as B
 use Rattle.settings.specs.declared.Cull.the-variants.{Off}
 use Rattle.settings.specs.declared.FrontFace.the-variants.{Ccw}
-use Rattle.settings.specs.declared.FogMode.the-variants.{Linear}
+use Rattle.settings.specs.declared.FogMode.the-variants.{Exp}
 use Rattle.settings.specs.declared.TexEnvMode.the-variants.{Replace}
 use Rattle.settings.specs.declared.PipelineState.{PipelineState}
 use Rattle.settings.specs.declared.TextureStage.{TextureStage}
@@ -68,21 +69,24 @@ start = record {
 
 -- ---- draws
 
-abbrev pub corner : Float → Float → Float → Vertex
-corner x y z = record {
-  pos = x ∷ y ∷ z ∷ one32 ∷ [];
+abbrev pub cornerAt : Float → Float → Float → Float → Vertex
+cornerAt x y z w = record {
+  pos = x ∷ y ∷ z ∷ w ∷ [];
   color = one32 ∷ one32 ∷ one32 ∷ one32 ∷ [];
   texcoord = zero32 ∷ zero32 ∷ zero32 ∷ zero32 ∷ zero32 ∷ zero32 ∷ zero32 ∷ zero32 ∷ [];
   «fog_depth» = zero32;
 }
 
--- a depth test, Less; the viewport is the target
-abbrev pub settings : ScissorBox → PipelineState
-settings b = record {
-  viewport = record { x = pos 0; y = pos 0; width = pos 2; height = pos 1 };
+abbrev pub corner : Float → Float → Float → Vertex
+corner x y z = cornerAt x y z one32
+
+-- the default settings, whose comparison is Less, with a viewport from (0, 0), a scissor and the depth test
+abbrev pub settingsOf : ℕ → ℕ → Scissor → Bool → PipelineState
+settingsOf width height scissor tested = record {
+  viewport = record { x = pos 0; y = pos 0; width = pos width; height = pos height };
   «depth_range» = record { near = zero32; far = one32 };
-  scissor = Within b;
-  «depth_test» = true;
+  scissor = scissor;
+  «depth_test» = tested;
   «depth_func» = C.Less;
   «depth_write» = true;
   «alpha_test» = false;
@@ -95,13 +99,17 @@ settings b = record {
   «front_face» = Ccw;
   «color_mask» = record { r = true; g = true; b = true; a = true };
   fog = false;
-  «fog_mode» = Linear;
+  «fog_mode» = Exp;
   «fog_color» = black;
   «fog_start» = zero32;
   «fog_end» = one32;
   «fog_density» = one32;
   «smooth_shading» = true;
 }
+
+-- a depth test, Less; the viewport is the target
+abbrev pub settings : ScissorBox → PipelineState
+settings b = settingsOf 2 1 (Within b) true
 
 -- one stage, of unit u; each pixel takes its texel's colour
 abbrev pub stage : ℕ → TextureStage
