@@ -1,26 +1,55 @@
-# make test     the gate: rt ci over every crate, the comparison with the Rust, the benchmark's own check, the example and the panels
-# make lib      the archives of the exported crates, target/staticlib/lib*.a (after rt ci they reuse what it proved)
-# make boundary-valgrind  abuse at the C boundary under valgrind (CASES=20000)
-# make record   the Rust's answers written anew to crates/replay_*
-# make example  one guest in C, built as C99 and as C++ and run (examples/panel.c)
-# make panels   forty guests on one frame, their calls interleaved by SEED (1), each held to itself alone; target/panels.png
-# make pictures docs/pictures written anew
-# make rust-check  the tests of rust/ and the panels' own checks
+# make without a goal lists what there is to make: the lines of this file that begin with ##.
 
-# The crates that are exported for C and Rust to link.
-EXPORTED = probes tilefringe
+## make check    what has changed is proved, programs run and the comparison made briefly; no must-fail edit
+## make test     the gate: every crate proved from nothing, every must-fail edit, comparison, boundary, benchmark, example, panels; then its times
+## make times    the times of the last make test: each crate, its edits, each part
+## make lib      the archives of the exported crates, target/staticlib/lib*.a
+## make panels   forty guests on one frame, their calls interleaved by SEED (1), each held to itself alone; target/panels.png
+## make example  one guest in C, built as C99 and as C++ and run (examples/panel.c)
+## make pictures docs/pictures written anew
+## make rust-check         the tests of rust/ and the panels' own checks
+## make differential-check the comparison with the Rust (differential/run --help)
+## make boundary-valgrind  abuse at the C boundary under valgrind (CASES=20000)
+## make bench-check        the benchmark held to its bars (bench/run --help)
+## make record   the Rust's answers written anew to crates/replay_*
+##
+## With TILEFRINGE_LIB=FOLDER panels, example, pictures and rust-check take FOLDER/libtilefringe.a and prove nothing; so do the comparison
+## and the benchmark, which want libprobes.a there too.
 
-.PHONY: test lib differential-check boundary-valgrind bench-check record example panels pictures rust-check rust-build
+.PHONY: help check test times lib differential-check boundary-valgrind bench-check record example panels pictures rust-check rust-build
+.NOTPARALLEL:
+
+help:
+	@sed -n 's/^## \{0,1\}//p' Makefile
 
 test:
-	@rt version
-	@mkdir -p log
-	@ok=0; rt ci > log/ci 2>&1 || ok=1; cat log/ci; \
-	if [ $$ok = 0 ]; then $(MAKE) --no-print-directory lib && $(MAKE) --no-print-directory differential-check && $(MAKE) --no-print-directory boundary-valgrind && $(MAKE) --no-print-directory bench-check && $(MAKE) --no-print-directory example && $(MAKE) --no-print-directory rust-check || ok=1; fi; \
-	if [ $$ok = 0 ]; then tail -n 1 log/ci; else echo "make test: FAILED"; exit 1; fi
+	@tools/gate
 
-lib:
-	@for crate in $(EXPORTED); do rt staticlib $$crate || exit 1; done
+times:
+	@cat log/times 2> /dev/null || { echo "no make test has left its times here"; exit 1; }
+
+# The crates that are exported for C and Rust to link. The comparison uses both archives, everything else libtilefringe.a alone.
+EXPORTED = probes tilefringe
+
+ifneq ($(TILEFRINGE_LIB),)
+export TILEFRINGE_LIB := $(abspath $(TILEFRINGE_LIB))
+endif
+ARCHIVE := $(or $(TILEFRINGE_LIB),target/staticlib)/libtilefringe.a
+
+lib: $(EXPORTED:%=target/staticlib/lib%.a)
+
+target/staticlib/lib%.a: $(shell find crates -name '*.rt' -o -name '*.antt') crates.txt
+	@tools/proofs $*
+
+ifneq ($(TILEFRINGE_LIB),)
+$(TILEFRINGE_LIB)/lib%.a:
+	@echo "there is no lib$*.a in the folder that TILEFRINGE_LIB names, $(TILEFRINGE_LIB)" >&2; exit 1
+endif
+
+check:
+	@tools/proofs
+	@$(MAKE) --no-print-directory lib
+	@TILEFRINGE_LIB= differential/run --cases 2000 || { s=$$?; [ $$s = 3 ]; }
 
 # Exit status 3 of a run: the Rust's source is not at hand, which is a failure only where CI=true.
 differential-check:
@@ -37,14 +66,6 @@ bench-check:
 
 record: lib
 	@differential/run --record
-
-ARCHIVE = target/staticlib/libtilefringe.a
-
-# What the proofs say goes to log/lib, and a line a crate to standard error, so that what is run with the archive has standard output to itself.
-$(ARCHIVE): $(shell find crates -name '*.rt' -o -name '*.antt') crates.txt
-	@mkdir -p log
-	@{ s=0; rt staticlib tilefringe 2>&1 || s=$$?; echo $$s > log/lib.status; } | tee log/lib | grep --line-buffered '^rt:' >&2; \
-	[ "$$(cat log/lib.status)" = 0 ] || { cat log/lib >&2; exit 1; }
 
 # The header is for C99 and for C++: the guest is built as both.
 WARNINGS = -Wall -Wextra -Werror -pedantic

@@ -3,7 +3,7 @@ use std::path::PathBuf;
 
 fn main() {
     println!("cargo:rerun-if-env-changed=TILEFRINGE_LIB");
-    let folder = match std::env::var_os("TILEFRINGE_LIB") {
+    let folder = match std::env::var_os("TILEFRINGE_LIB").filter(|folder| !folder.is_empty()) {
         Some(folder) => PathBuf::from(folder),
         None => PathBuf::from(std::env::var_os("CARGO_MANIFEST_DIR").unwrap()).join("../target/staticlib"),
     };

@@ -33,17 +33,8 @@ struct Effort {
 const WHOLE: Effort = Effort { rounds: 15, slice: Duration::from_millis(30), again: 0 };
 const BRIEF: Effort = Effort { rounds: 6, slice: Duration::from_millis(8), again: 60 };
 
-const USAGE: &str = "bench/run [--check] [NAME..]
-
-A line for each workload: NAME port_ns rust_ns ratio. Times are per unit (docs/BENCHMARKS.md says which);
-a ratio below 1 means that the port is faster.
-
-  --check   measure briefly, and fail where a line misses its bar
-  --list    the names and bars
-  --help    this text
-
-Exit status: 0; 1 a bar was missed or the two sides disagree; 2 bad arguments.
-";
+/// What --help prints. bench/run prints it by itself, so that it needs no archive.
+const USAGE: &str = include_str!("../help.txt");
 
 /// Nanoseconds per unit, the best of the rounds for each side.
 #[derive(Clone, Copy)]

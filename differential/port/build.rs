@@ -1,12 +1,15 @@
-//! Links the archives that `rt staticlib` writes.
+//! Links the archives that `make lib` writes, or those in the folder that `TILEFRINGE_LIB` names.
 use std::path::PathBuf;
 
 /// The exported Rattle crates. Two archives link together.
 const ARCHIVES: &[&str] = &["probes", "tilefringe"];
 
 fn main() {
-    let here = PathBuf::from(std::env::var("CARGO_MANIFEST_DIR").unwrap());
-    let folder = here.join("../../target/staticlib");
+    println!("cargo:rerun-if-env-changed=TILEFRINGE_LIB");
+    let folder = match std::env::var_os("TILEFRINGE_LIB").filter(|folder| !folder.is_empty()) {
+        Some(folder) => PathBuf::from(folder),
+        None => PathBuf::from(std::env::var_os("CARGO_MANIFEST_DIR").unwrap()).join("../../target/staticlib"),
+    };
     println!("cargo:rustc-link-search=native={}", folder.display());
     for name in ARCHIVES {
         let archive = folder.join(format!("lib{name}.a"));

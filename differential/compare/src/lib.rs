@@ -17,9 +17,7 @@ pub use tally::Tally;
 /// One comparison: a file of `parts/`.
 pub struct Part {
     pub name: &'static str,
-    /// One line for --help.
-    pub about: &'static str,
-    /// How many cases it runs unless --cases says otherwise: some seconds to a minute.
+    /// How many cases it runs unless --cases says otherwise: some seconds to a minute. help.txt has both, and what it compares.
     pub cases: u64,
     pub run: fn(&mut Ctx),
     /// A fixed sample of the Rust's answers, at least 400, for crates/replay_NAME.

@@ -11,23 +11,15 @@ struct Asked {
     parts: Vec<&'static Part>,
 }
 
-fn usage() -> String {
-    let mut text = String::from(
-        "differential/run [--seed N] [--cases N] [--full] [PART..]\n\
-         differential/run --record [PART..]\n\n\
-         Feeds the port and the Rust the same inputs and compares every answer. The last line is `N cases, D differences`.\n\n\
-           --seed N    another choice of random cases (default 1); the same seed gives the same run\n\
-           --cases N   so many random cases in each part\n\
-           --full      exhaustive sweeps too (minutes)\n\
-           --record    write the Rust's answers to crates/replay_PART instead\n\
-           --help      this text\n\n\
-         Parts (all of them unless named):\n",
-    );
-    for part in PARTS {
-        text.push_str(&format!("  {:<10} {} ({} cases)\n", part.name, part.about, part.cases));
-    }
-    text.push_str("\nExit status: 0 no difference; 1 a difference or a floor that was not reached; 2 bad arguments.\n");
-    text
+/// What --help prints. differential/run prints it by itself, so that it needs no archive.
+const USAGE: &str = include_str!("../help.txt");
+
+/// A part that help.txt does not have, with its cases.
+fn untold() -> Option<&'static Part> {
+    PARTS.iter().find(|part| {
+        let (start, end) = (format!("  {:<10} ", part.name), format!(" ({} cases)", part.cases));
+        !USAGE.lines().any(|line| line.starts_with(&start) && line.ends_with(&end))
+    })
 }
 
 fn number(option: &str, word: Option<String>) -> Result<u64, String> {
@@ -105,9 +97,13 @@ fn compare_all(asked: &Asked) -> ExitCode {
 
 fn main() -> ExitCode {
     judge::quiet_panics();
+    if let Some(part) = untold() {
+        eprintln!("differential/compare/help.txt has no line of the part {} with {} cases", part.name, part.cases);
+        return ExitCode::from(2);
+    }
     match asked(std::env::args().skip(1)) {
         Ok(None) => {
-            print!("{}", usage());
+            print!("{USAGE}");
             ExitCode::SUCCESS
         }
         Ok(Some(asked)) if asked.record => write_records(&asked.parts),

@@ -17,7 +17,6 @@ use std::sync::OnceLock;
 
 pub const PART: Part = Part {
     name: "boundary",
-    about: "every C function with any numbers, lengths and bytes, its slices against pages without rights: refused calls change nothing",
     cases: 200_000,
     run,
     record: None,

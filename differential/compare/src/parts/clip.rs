@@ -9,7 +9,6 @@ use std::hint::black_box;
 
 pub const PART: Part = Part {
     name: "clip",
-    about: "clip planes, interpolated corners, clipped polygons, and triangle setup by the pixels it leads to",
     cases: 200_000,
     run,
     record: None,

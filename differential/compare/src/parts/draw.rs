@@ -19,7 +19,6 @@ use std::sync::Mutex;
 
 pub const PART: Part = Part {
     name: "draw",
-    about: "draw_triangle with all its settings, stages and targets, clipped, refused and wrongly laid out calls",
     cases: 200_000,
     run,
     record: Some(recorded::record),

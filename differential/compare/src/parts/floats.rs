@@ -8,7 +8,6 @@ use std::ops::Range;
 
 pub const PART: Part = Part {
     name: "floats",
-    about: "minimum, maximum, clamp, floor, casts and bytes of f32",
     cases: 2_000_000,
     run,
     record: Some(record),

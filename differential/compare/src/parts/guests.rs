@@ -15,7 +15,6 @@ mod lists;
 
 pub const PART: Part = Part {
     name: "guests",
-    about: "lists of the six calls by forty guests: each gets what it gets alone (docs/ISOLATION.md)",
     cases: 3_000,
     run,
     record: None,

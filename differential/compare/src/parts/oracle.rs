@@ -2,8 +2,7 @@
 use crate::judge::caught;
 use crate::{judged, Ctx, Part};
 
-pub const PART: Part =
-    Part { name: "oracle", about: "released, checked and saturating Rust on an input that overflows", cases: 1, run, record: None };
+pub const PART: Part = Part { name: "oracle", cases: 1, run, record: None };
 
 const POSITIONS: [[f32; 4]; 3] = [
     [-0.58440924, 1048576.0, -7.913417e-9, 1048576.0],

@@ -6,7 +6,6 @@ use port::sampler::{layout, probe_q_of, sample, samples, steps, Coordinates, Num
 
 pub const PART: Part = Part {
     name: "sampling",
-    about: "nearest, linear and mixed samples, and the level of detail",
     cases: 400_000,
     run,
     record: Some(record),

@@ -8,7 +8,6 @@ use std::hint::black_box;
 
 pub const PART: Part = Part {
     name: "settings",
-    about: "comparisons, blend factors, environments, linear fog, blending and masks of one fragment",
     cases: 2_000_000,
     run,
     record: Some(record),

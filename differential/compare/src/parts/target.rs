@@ -7,7 +7,6 @@ use ::port::target::Scissor;
 
 pub const PART: Part = Part {
     name: "target",
-    about: "clear_color, clear_depth and to_rgb565 on targets and scissors of every shape, refused ones too",
     cases: 200_000,
     run,
     record: Some(record),

@@ -5,7 +5,6 @@ use port::texels as port;
 
 pub const PART: Part = Part {
     name: "texels",
-    about: "plain, compressed and paletted decoding, and the size query",
     cases: 1_000_000,
     run,
     record: Some(record),

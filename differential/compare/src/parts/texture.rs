@@ -8,7 +8,6 @@ use std::collections::BTreeMap;
 
 pub const PART: Part = Part {
     name: "texture",
-    about: "define_level, patch_level and set_parameter in sequences on four textures",
     cases: 60_000,
     run,
     record: Some(record),
