@@ -12,7 +12,7 @@ for file in raster texture consts; do
 done
 for archive in probes tilefringe; do
     if [ ! -f "${TILEFRINGE_LIB:-target/staticlib}/lib$archive.a" ]; then
-        echo "${TILEFRINGE_LIB:-target/staticlib}/lib$archive.a is not there: make lib writes it." >&2
+        echo "${TILEFRINGE_LIB:-target/staticlib}/lib$archive.a is not there: make lib writes it to target/staticlib." >&2
         exit 1
     fi
 done
