@@ -76,6 +76,10 @@ word s at = half s at + half s (at + 2) * 65536
 abbrev pub sixBytes : List ℕ → ℕ → ℕ
 sixBytes s at = word s at + half s (at + 4) * 4294967296
 
+-- three bytes, the lowest first: half of the selectors of an alpha block
+abbrev pub threeBytes : List ℕ → ℕ → ℕ
+threeBytes s at = half s at + getD s (at + 2) 0 * 65536
+
 -- sixteen texels chosen from a palette by selectors of two bits
 unfoldable pub chosen : List (List ℕ) → ℕ → List (List ℕ)
 chosen palette bits = tab 16 (λ i. getD palette (selector 2 bits i) [])

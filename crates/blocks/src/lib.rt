@@ -5,7 +5,7 @@ ghost use Prim.Native.Nat.{_+_, _-_, _*_, _/_, _%_, _^_, _≤_, _<_};
 ghost use lib.ListN.{length, getD};
 ghost use Rattle.texels.specs.Texels.{half};
 ghost use Rattle.lists.specs.Lists.{tab};
-ghost use Rattle.blocks.specs.Blocks.{mixed, mixed3, rgb565, rgb555, dxt1Palette, lessQuarter, lessQuarter3, ThreeBits, atcPalette, selector, word, sixBytes, chosen, dxt1, atc, dxt1AlphaOf, dxt1Alpha, explicitAlpha, alphaPalette, alphaSelectors, interpolatedAlpha, opaque, blockBytes, isDxt1, alphaBytes, blockRgb, blockAlpha};
+ghost use Rattle.blocks.specs.Blocks.{mixed, mixed3, rgb565, rgb555, dxt1Palette, lessQuarter, lessQuarter3, ThreeBits, atcPalette, selector, word, threeBytes, chosen, dxt1, atc, dxt1AlphaOf, dxt1Alpha, explicitAlpha, alphaPalette, alphaSelectors, interpolatedAlpha, opaque, blockBytes, isDxt1, alphaBytes, blockRgb, blockAlpha};
 
 // The formats whose images are made of blocks.
 pub enum Block {
@@ -209,18 +209,31 @@ fn alpha_palette(a0: u8, a1: u8) -> [u8; 8]
     }
 }
 
-fn six_bytes(s: &[u8], at: usize) -> u64
-    requires { ⌜ at + 6 ≤ length (now s) ⌝ }
-    ensures { λ r. ⌜ r ≡ sixBytes (now (s .entry)) at ⌝ }
+// Three bytes, the low one first.
+fn three_bytes(s: &[u8], at: usize) -> u32
+    requires { ⌜ at + 3 ≤ length (now s) ⌝ }
+    ensures { λ r. ⌜ (r ≡ threeBytes (now (s .entry)) at) × (r < 16777216) ⌝ }
 {
-    half(s, at) as u64 + half(s, at + 2) as u64 * 65536 + half(s, at + 4) as u64 * 4294967296
+    half(s, at) + wide(s[at + 2]) * 65536
 }
 
-fn selector3(bits: u64, i: usize) -> u8
-    requires { ⌜ i < 16 ⌝ }
+// The i-th of eight selectors of three bits.
+fn selector3(bits: u32, i: usize) -> u8
+    requires { ⌜ i < 8 ⌝ }
     ensures { λ r. ⌜ r ≡ selector 3 bits i ⌝ }
 {
     ((bits >> (3 * i)) % 8) as u8
+}
+
+// The i-th of sixteen, from two halves of eight.
+fn half_selector(low: u32, high: u32, i: usize) -> u8
+    requires { ⌜ (low < 16777216) × (i < 16) ⌝ }
+    ensures { λ r. ⌜ r ≡ selector 3 (high * 16777216 + low) i ⌝ }
+{
+    if i < 8 {
+        return selector3(low, i);
+    }
+    selector3(high, i - 8)
 }
 
 // The one reader of an alpha block's sixteen selectors of three bits, from its six bytes.
@@ -228,10 +241,11 @@ fn alpha_selectors(s: &[u8], at: usize) -> [u8; 16]
     requires { ⌜ at + 6 ≤ length (now s) ⌝ }
     ensures { λ r. ⌜ r ≡ alphaSelectors (now (s .entry)) at ⌝ }
 {
-    let bits = six_bytes(s, at);
+    let low = three_bytes(s, at);
+    let high = three_bytes(s, at + 3);
     let mut out = [0u8; 16];
     for i in 0..16 {
-        out[i] = selector3(bits, i);
+        out[i] = half_selector(low, high, i);
     }
     out
 }

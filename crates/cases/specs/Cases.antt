@@ -1,6 +1,6 @@
--- The worked cases of document 01 that are proved, in one list.
+-- The worked cases that are proved, in one list: those of document 01, and under the number of a change request those worked out for it.
 use mathlib.Core.Bool.{Bool, true, false, cond}
-use mathlib.Core.List.{List, [], _∷_}
+use mathlib.Core.List.{List, [], _∷_, _++_}
 use Prim.Native.Nat.{ℕ, _*_}
 use lib.Dec.{eqb}
 use lib.IntN.{pos}
@@ -8,7 +8,7 @@ use lib.ListN.{replicate}
 use Rattle.lists.specs.Lists.{tab, flat}
 use Rattle.texels.specs.Texels.{formatOf}
 use Rattle.texels.specs.Plain.{plainImage}
-use Rattle.blocks.specs.Blocks.{interpolatedAlpha}
+use Rattle.blocks.specs.Blocks.{alphaSelectors, interpolatedAlpha}
 use Rattle.compressed.specs.Compressed.{compressedOf, sizeOf, compressedImage}
 use Rattle.levels.specs.declared.MipLevel.{MipLevel}
 use Rattle.levels.specs.Levels.{levelAt, absent, topOf}
@@ -21,8 +21,10 @@ pub data Case : Type 0 where
   texel : ℕ → ℕ → List ℕ → List ℕ → Case
   -- a compressed format, a block's bytes: each of its sixteen texels
   block : ℕ → List ℕ → List ℕ → Case
-  -- an alpha block's bytes: each of its sixteen alphas
-  alphas : List ℕ → ℕ → Case
+  -- an alpha block's bytes: its sixteen alphas
+  alphas : List ℕ → List ℕ → Case
+  -- the six bytes after an alpha block's ends: its sixteen selectors
+  selectors : List ℕ → List ℕ → Case
   -- a compressed format, width, height: the bytes of the image
   size : ℕ → ℕ → ℕ → ℕ → Case
   -- a target's width and height, a box: its pixels row by row, 1 in the box and 0 outside
@@ -39,7 +41,8 @@ same (x ∷ xs) (y ∷ ys) = cond (eqb x y) (same xs ys) false
 unfoldable pub holds : Case → Bool
 holds (texel format ty bytes want) = same (plainImage (formatOf format ty) 1 1 bytes) want
 holds (block format bytes want) = same (compressedImage (compressedOf format) 4 4 bytes) (flat 16 (λ i. want))
-holds (alphas bytes want) = same (interpolatedAlpha bytes 0) (replicate 16 want)
+holds (alphas bytes want) = same (interpolatedAlpha bytes 0) want
+holds (selectors bytes want) = same (alphaSelectors bytes 0) want
 holds (size format w h want) = eqb (sizeOf (compressedOf format) w h) want
 holds (inside w h s want) = same (tab (w * h) (λ p. cond (pixelIn w h s p) 1 0)) want
 holds (top l want) = eqb (topOf l) want
@@ -55,7 +58,15 @@ cases =
     ∷ block 0x83F1 (0x1F ∷ 0x00 ∷ 0x00 ∷ 0xF8 ∷ 0xFF ∷ 0xFF ∷ 0xFF ∷ 0xFF ∷ []) (0 ∷ 0 ∷ 0 ∷ 0 ∷ [])
     ∷ block 0x8C92 (0x00 ∷ 0x7C ∷ 0x1F ∷ 0x00 ∷ 0x55 ∷ 0x55 ∷ 0x55 ∷ 0x55 ∷ []) (159 ∷ 0 ∷ 95 ∷ 255 ∷ [])
     ∷ block 0x8C92 (0x00 ∷ 0xFC ∷ 0x00 ∷ 0xF8 ∷ 0x55 ∷ 0x55 ∷ 0x55 ∷ 0x55 ∷ []) (192 ∷ 0 ∷ 0 ∷ 255 ∷ [])
-    ∷ alphas (0xFF ∷ 0x00 ∷ 0x92 ∷ 0x24 ∷ 0x49 ∷ 0x92 ∷ 0x24 ∷ 0x49 ∷ []) 218
+    ∷ alphas (0xFF ∷ 0x00 ∷ 0x92 ∷ 0x24 ∷ 0x49 ∷ 0x92 ∷ 0x24 ∷ 0x49 ∷ []) (replicate 16 218)
+    -- 2026-04: eight selectors in three bytes; the last bit of the first half and the first bit of the second
+    ∷ selectors (0x92 ∷ 0x24 ∷ 0x49 ∷ 0x92 ∷ 0x24 ∷ 0x49 ∷ []) (replicate 16 2)
+    ∷ selectors (0x88 ∷ 0xC6 ∷ 0xFA ∷ 0x88 ∷ 0xC6 ∷ 0xFA ∷ [])
+    (0 ∷ 1 ∷ 2 ∷ 3 ∷ 4 ∷ 5 ∷ 6 ∷ 7 ∷ 0 ∷ 1 ∷ 2 ∷ 3 ∷ 4 ∷ 5 ∷ 6 ∷ 7 ∷ [])
+    ∷ selectors (0xFF ∷ 0xFF ∷ 0xFF ∷ 0x00 ∷ 0x00 ∷ 0x00 ∷ []) (replicate 8 7 ++ replicate 8 0)
+    ∷ selectors (0x00 ∷ 0x00 ∷ 0x80 ∷ 0x00 ∷ 0x00 ∷ 0x00 ∷ []) (replicate 7 0 ++ 4 ∷ replicate 8 0)
+    ∷ alphas (0xFF ∷ 0x00 ∷ 0x00 ∷ 0x00 ∷ 0x80 ∷ 0x00 ∷ 0x00 ∷ 0x00 ∷ []) (replicate 7 255 ++ 145 ∷ replicate 8 255)
+    ∷ selectors (0x00 ∷ 0x00 ∷ 0x00 ∷ 0x01 ∷ 0x00 ∷ 0x00 ∷ []) (replicate 8 0 ++ 1 ∷ replicate 7 0)
     ∷ size 0x8B90 3 2 52
     ∷ size 0x83F0 5 4 16
     ∷ size 0x83F1 5 4 16

@@ -1,1 +1,1 @@
-// Worked cases of document 01, proved: specs/Cases.antt has the list, proofs/Worked.antt its proof.
+// Worked cases of document 01 and of change requests, proved: specs/Cases.antt has the list, proofs/Worked.antt its proof.

@@ -324,6 +324,23 @@ fn blocks(ctx: &mut Ctx) {
             tally.count(if c0 < 0x8000 { "ATC mode 0" } else { "ATC mode 1" });
         }
     });
+    // Each of the 48 bits of an alpha block's selectors alone, and missing alone, its ends falling and rising; the worked cases of 2026-04.
+    let mut rng = ctx.rng("alpha bits");
+    for bit in 0..48 {
+        for ends in [[255, 0], [0, 255]] {
+            for bits in [1u64 << bit, !(1 << bit)] {
+                let [c, d, e, f, g, h, ..] = bits.to_le_bytes();
+                let mut block = [0; 8];
+                rng.fill(&mut block);
+                try_block(&mut ctx.tally, block, [ends[0], ends[1], c, d, e, f, g, h]);
+                ctx.tally.count("alpha bits alone or missing");
+            }
+        }
+    }
+    for [c, d, e, f, g, h] in [selectors, [0xFF, 0xFF, 0xFF, 0, 0, 0], [0, 0, 0x80, 0, 0, 0], [0, 0, 0, 1, 0, 0], [0x92, 0x24, 0x49, 0x92, 0x24, 0x49]] {
+        try_block(&mut ctx.tally, [0; 8], [255, 0, c, d, e, f, g, h]);
+        ctx.tally.count("alpha halves worked");
+    }
     let random = ctx.cases / 4;
     ctx.spread("blocks", random, 1 << 12, |tally, rng, range| {
         for _ in range {
@@ -342,6 +359,8 @@ fn blocks(ctx: &mut Ctx) {
     }
     ctx.floor("endpoints equal", 30);
     ctx.floor("alpha ends", 65_536);
+    ctx.floor("alpha bits alone or missing", 192);
+    ctx.floor("alpha halves worked", 5);
 }
 
 /// Every size from 0 by 0 to 9 by 9 and about the largest, under every format; block_counts and decode_paletted beside.
