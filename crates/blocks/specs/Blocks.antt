@@ -1,19 +1,16 @@
 -- Blocks of four by four texels: the colours and the alphas of a block whose bytes stand in s from `at` on, row by row.
 use mathlib.Core.Bool.{Bool, true, false, cond}
 use mathlib.Core.List.{List, [], _∷_}
-use Prim.Native.Nat.{ℕ, _+_, _-_, _*_, _/_, _%_, _^_, _<_}
+use Prim.Native.Nat.{ℕ, _+_, _-_, _*_, _/_}
 use lib.Dec.{eqb, ltb}
 use lib.ListN.{getD}
 use Rattle.lists.specs.Lists.{tab}
-use Rattle.texels.specs.Texels.{expand4, expand5, expand6, half}
+use Rattle.texels.specs.Texels.{expand5, expand6, half}
+use Rattle.alpha_blocks.specs.AlphaBlocks.{mixed, selector, word, explicitAlpha, interpolatedAlpha}
 use Rattle.blocks.specs.declared.Block.{Block}
 use Rattle.blocks.specs.declared.Block.the-variants.{Dxt1Rgb, Dxt1Rgba, AtcRgb, AtcExplicit, AtcInterpolated}
 
--- document 01: divisions round down. k n-ths of the way from a to b
-abbrev pub mixed : ℕ → ℕ → ℕ → ℕ → ℕ
-mixed k n a b = ((n - k) * a + k * b) / n
-
--- the same for each of three channels
+-- a mixture for each of three channels
 abbrev pub mixed3 : ℕ → ℕ → List ℕ → List ℕ → List ℕ
 mixed3 k n a b =
     mixed k n (getD a 0 0) (getD b 0 0)
@@ -65,21 +62,6 @@ atcPalette c0 c1 =
     ∷ [])
     (black ∷ lessQuarter3 (rgb555 c0) (rgb565 c1) ∷ rgb555 c0 ∷ rgb565 c1 ∷ [])
 
--- EXT_texture_compression_s3tc: the i-th of a run of selectors of k bits, the lowest bits first
-abbrev pub selector : ℕ → ℕ → ℕ → ℕ
-selector k bits i = bits / 2 ^ (k * i) % 2 ^ k
-
--- four bytes and six, the lowest first
-abbrev pub word : List ℕ → ℕ → ℕ
-word s at = half s at + half s (at + 2) * 65536
-
-abbrev pub sixBytes : List ℕ → ℕ → ℕ
-sixBytes s at = word s at + half s (at + 4) * 4294967296
-
--- three bytes, the lowest first: half of the selectors of an alpha block
-abbrev pub threeBytes : List ℕ → ℕ → ℕ
-threeBytes s at = half s at + getD s (at + 2) 0 * 65536
-
 -- sixteen texels chosen from a palette by selectors of two bits
 unfoldable pub chosen : List (List ℕ) → ℕ → List (List ℕ)
 chosen palette bits = tab 16 (λ i. getD palette (selector 2 bits i) [])
@@ -98,38 +80,6 @@ dxt1AlphaOf c0 c1 sel = cond (ltb c1 c0) 255 (cond (eqb sel 3) 0 255)
 
 unfoldable pub dxt1Alpha : List ℕ → ℕ → List ℕ
 dxt1Alpha s at = tab 16 (λ i. dxt1AlphaOf (half s at) (half s (at + 2)) (selector 2 (word s (at + 4)) i))
-
--- texture.rs, decode_compressed_to_rgba, GL_ATC_RGBA_EXPLICIT_ALPHA_AMD: four bits a texel, the low half of a byte first
-unfoldable pub explicitAlpha : List ℕ → ℕ → List ℕ
-explicitAlpha s at = tab 16 (λ i. expand4 (getD s (at + i / 2) 0 / 2 ^ (4 * (i % 2))))
-
--- texture.rs, interpolated_alpha_block: a0 > a1 has six alphas between, else there are four, 0 and 255
-unfoldable pub alphaPalette : ℕ → ℕ → List ℕ
-alphaPalette a0 a1 =
-    cond (ltb a1 a0)
-    (a0
-    ∷ a1
-    ∷ mixed 1 7 a0 a1
-    ∷ mixed 2 7 a0 a1
-    ∷ mixed 3 7 a0 a1
-    ∷ mixed 4 7 a0 a1
-    ∷ mixed 5 7 a0 a1
-    ∷ mixed 6 7 a0 a1
-    ∷ [])
-    (a0 ∷ a1 ∷ mixed 1 5 a0 a1 ∷ mixed 2 5 a0 a1 ∷ mixed 3 5 a0 a1 ∷ mixed 4 5 a0 a1 ∷ 0 ∷ 255 ∷ [])
-
--- texture.rs, interpolated_alpha_block: sixteen selectors of three bits in six bytes
-unfoldable pub alphaSelectors : List ℕ → ℕ → List ℕ
-alphaSelectors s at = tab 16 (selector 3 (sixBytes s at))
-
--- texture.rs, interpolated_alpha_block
-unfoldable pub interpolatedAlpha : List ℕ → ℕ → List ℕ
-interpolatedAlpha s at =
-    tab 16 (λ i. getD (alphaPalette (getD s at 0) (getD s (at + 1) 0)) (getD (alphaSelectors s (at + 2)) i 0) 0)
-
--- what the choice from eight alphas asks of its selectors
-abbrev pub ThreeBits : List ℕ → Type 0
-ThreeBits l = (i : ℕ) → getD l i 0 < 8
 
 -- texture.rs, decode_compressed_to_rgba: alpha of a format that has none
 unfoldable pub opaque : List ℕ

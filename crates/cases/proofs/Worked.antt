@@ -5,7 +5,8 @@ use Rattle.lists.specs.Lists.{tab, flat, all}
 use Rattle.texels.specs.Image.{image}
 use Rattle.texels.specs.Texels.{nthTexel, byteFormat, formatOf}
 use Rattle.texels.specs.Plain.{plainImage}
-use Rattle.blocks.specs.Blocks.{dxt1Palette, atcPalette, chosen, dxt1, atc, dxt1AlphaOf, dxt1Alpha, alphaPalette, alphaSelectors, interpolatedAlpha, opaque, blockTexel}
+use Rattle.alpha_blocks.specs.AlphaBlocks.{alphaPalette, alphaSelectors, interpolatedAlpha}
+use Rattle.blocks.specs.Blocks.{dxt1Palette, atcPalette, chosen, dxt1, atc, dxt1AlphaOf, dxt1Alpha, opaque, blockTexel}
 use Rattle.block_images.specs.Walk.{texelInBlocks, blockImage}
 use Rattle.compressed.specs.Compressed.{paletteOf, compressedOf, sizeOf, compressedImage}
 use Rattle.levels.specs.Levels.{complete, half, single, follows, climb, topOf}

@@ -8,7 +8,7 @@ use lib.ListN.{replicate}
 use Rattle.lists.specs.Lists.{tab, flat}
 use Rattle.texels.specs.Texels.{formatOf}
 use Rattle.texels.specs.Plain.{plainImage}
-use Rattle.blocks.specs.Blocks.{alphaSelectors, interpolatedAlpha}
+use Rattle.alpha_blocks.specs.AlphaBlocks.{alphaSelectors, interpolatedAlpha}
 use Rattle.compressed.specs.Compressed.{compressedOf, sizeOf, compressedImage}
 use Rattle.levels.specs.declared.MipLevel.{MipLevel}
 use Rattle.levels.specs.Levels.{levelAt, absent, topOf}

@@ -1,6 +1,7 @@
 -- `chosen` meets its contract. The invariant: the first i texels are chosen. Assumes nothing.
 use mathlib.Core.List.{[], _++_, append-nil}
-use Rattle.blocks.specs.Blocks.{selector, chosen}
+use Rattle.alpha_blocks.specs.AlphaBlocks.{selector}
+use Rattle.blocks.specs.Blocks.{chosen}
 use Rattle.lists.proofs.Tables.{tab-none, tab-more}
 use Rattle.lists.specs.Lists.{tab}
 use lib.ListN.{drop, getD}

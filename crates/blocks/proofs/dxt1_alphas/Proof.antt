@@ -1,5 +1,6 @@
 -- `dxt1_alphas` meets its contract. The invariant: the first i alphas are there. Assumes nothing.
-use Rattle.blocks.specs.Blocks.{selector, dxt1AlphaOf}
+use Rattle.alpha_blocks.specs.AlphaBlocks.{selector}
+use Rattle.blocks.specs.Blocks.{dxt1AlphaOf}
 use Rattle.lists.proofs.Tables.{tab-none, tab-more}
 use Rattle.lists.specs.Lists.{tab}
 use lib.ListN.{drop}

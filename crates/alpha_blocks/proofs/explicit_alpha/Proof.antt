@@ -1,8 +1,8 @@
 -- `explicit_alpha` meets its contract: the byte is read wide. Assumes nothing.
 use mathlib.Core.Path.{_∙_}
 use borrow.Author.Needs.{needs}
-use Rattle.blocks.proofs.explicit_alpha.Statement.{statement}
-use Rattle.blocks.proofs.explicit_alpha.Tie as tie
+use Rattle.alpha_blocks.proofs.explicit_alpha.Statement.{statement}
+use Rattle.alpha_blocks.proofs.explicit_alpha.Tie as tie
 
 returns : tie.Need-returns
 returns c = c .expand4 .ensures ∙ rw (c .before .wide .ensures .0)

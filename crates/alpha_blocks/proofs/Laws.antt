@@ -9,7 +9,7 @@ use lib.Pow.{shr-shr, high, low, field, mod-mod-pow}
 use lib.ListN.{getD, List·getD-eq-default}
 use Rattle.lists.specs.Lists.{tab}
 use Rattle.lists.proofs.Tables.{getD-tab, length-tab}
-use Rattle.blocks.specs.Blocks.{mixed, selector, threeBytes, sixBytes, alphaSelectors, ThreeBits}
+use Rattle.alpha_blocks.specs.AlphaBlocks.{mixed, selector, threeBytes, sixBytes, alphaSelectors, ThreeBits}
 
 pub mixed-byte : (k n a b : ℕ) → k ≤ n → a < 256 → b < 256 → mixed k n a b ≤ 255
 mixed-byte k n a b h p q =

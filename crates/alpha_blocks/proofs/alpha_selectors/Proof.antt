@@ -1,16 +1,16 @@
 -- `alpha_selectors` meets its contract. The invariant: the first i selectors are read; the two halves are the one number. Assumes nothing.
-use Rattle.blocks.specs.Blocks.{selector, alphaSelectors}
+use Rattle.alpha_blocks.specs.AlphaBlocks.{selector, alphaSelectors}
 use Rattle.lists.proofs.Tables.{tab-none, tab-more}
 use Rattle.lists.specs.Lists.{tab}
-use Rattle.blocks.proofs.Laws.{two-halves}
+use Rattle.alpha_blocks.proofs.Laws.{two-halves}
 use lib.ListN.{drop}
 use borrow.Author.Needs.{needs}
 use native.Mathlib.Omega.{arith}
 use Prim.Native.Nat.{_+_, _*_, _-_, _≤_}
 use mathlib.Core.List.{_++_, append-nil}
 use mathlib.Core.Path.{_≡_, _∙_}
-use Rattle.blocks.proofs.alpha_selectors.Statement.{statement}
-use Rattle.blocks.proofs.alpha_selectors.Tie as tie
+use Rattle.alpha_blocks.proofs.alpha_selectors.Statement.{statement}
+use Rattle.alpha_blocks.proofs.alpha_selectors.Tie as tie
 
 abbrev Inv-loop : tie.InvT-loop
 Inv-loop s at low high out₀ i₀ out i =

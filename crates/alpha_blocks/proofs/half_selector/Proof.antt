@@ -2,10 +2,10 @@
 use mathlib.Core.Path.{sym, _∙_}
 use Prim.Native.Nat.{_-_}
 use native.Mathlib.Omega.{arith}
-use Rattle.blocks.proofs.Laws.{lower-part, higher-part}
+use Rattle.alpha_blocks.proofs.Laws.{lower-part, higher-part}
 use borrow.Author.Needs.{needs}
-use Rattle.blocks.proofs.half_selector.Statement.{statement}
-use Rattle.blocks.proofs.half_selector.Tie as tie
+use Rattle.alpha_blocks.proofs.half_selector.Statement.{statement}
+use Rattle.alpha_blocks.proofs.half_selector.Tie as tie
 
 returns : tie.Need-returns
 returns c =

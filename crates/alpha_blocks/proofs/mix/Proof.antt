@@ -1,10 +1,10 @@
 -- `mix` meets its contract: the sum is at most n times 255, so that it fits and its n-th is a byte. Assumes nothing.
-use Rattle.blocks.proofs.Laws.{mixed-byte, sub-le, byte}
+use Rattle.alpha_blocks.proofs.Laws.{mixed-byte, sub-le, byte}
 use native.Mathlib.Nat.{mul-le-mul, le-refl}
 use native.Mathlib.Omega.{arith}
 use borrow.Author.Needs.{needs}
-use Rattle.blocks.proofs.mix.Statement.{statement}
-use Rattle.blocks.proofs.mix.Tie as tie
+use Rattle.alpha_blocks.proofs.mix.Statement.{statement}
+use Rattle.alpha_blocks.proofs.mix.Tie as tie
 
 mul-result : tie.Need-mul-result
 mul-result c =

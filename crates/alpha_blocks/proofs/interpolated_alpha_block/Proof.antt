@@ -1,10 +1,10 @@
 -- `interpolated_alpha_block` meets its contract: the selectors that are read have three bits. Assumes nothing.
 use mathlib.Core.Path.{_∙_}
-use Rattle.blocks.specs.Blocks.{interpolatedAlpha}
-use Rattle.blocks.proofs.Laws.{three-bits}
+use Rattle.alpha_blocks.specs.AlphaBlocks.{interpolatedAlpha}
+use Rattle.alpha_blocks.proofs.Laws.{three-bits}
 use borrow.Author.Needs.{needs}
-use Rattle.blocks.proofs.interpolated_alpha_block.Statement.{statement}
-use Rattle.blocks.proofs.interpolated_alpha_block.Tie as tie
+use Rattle.alpha_blocks.proofs.interpolated_alpha_block.Statement.{statement}
+use Rattle.alpha_blocks.proofs.interpolated_alpha_block.Tie as tie
 
 chosen-alphas-requires : tie.Need-chosen-alphas-requires
 chosen-alphas-requires c κs = rw (c .alpha-selectors .ensures) (three-bits _ _)

@@ -7,8 +7,8 @@ use native.Mathlib.Omega.{arith}
 use Prim.Native.Nat.{_-_, _≤_}
 use mathlib.Core.List.{_++_, append-nil}
 use mathlib.Core.Path.{_≡_, _∙_}
-use Rattle.blocks.proofs.chosen_alphas.Statement.{statement}
-use Rattle.blocks.proofs.chosen_alphas.Tie as tie
+use Rattle.alpha_blocks.proofs.chosen_alphas.Statement.{statement}
+use Rattle.alpha_blocks.proofs.chosen_alphas.Tie as tie
 
 abbrev Inv-loop : tie.InvT-loop
 Inv-loop palette selectors out₀ i₀ out i =

@@ -1,9 +1,9 @@
 -- `alpha_palette` meets its contract, by the order of the two alphas. Assumes nothing.
 use borrow.Author.Tests.{lt-ltb, le-ltb}
-use Rattle.blocks.specs.Blocks.{alphaPalette}
+use Rattle.alpha_blocks.specs.AlphaBlocks.{alphaPalette}
 use borrow.Author.Needs.{needs}
-use Rattle.blocks.proofs.alpha_palette.Statement.{statement}
-use Rattle.blocks.proofs.alpha_palette.Tie as tie
+use Rattle.alpha_blocks.proofs.alpha_palette.Statement.{statement}
+use Rattle.alpha_blocks.proofs.alpha_palette.Tie as tie
 
 returns : tie.Need-returns
 unfolding alphaPalette

@@ -1,7 +1,7 @@
 -- `explicit_alpha_block` meets its contract. The invariant: the first i alphas are there. Assumes nothing.
 use Prim.Native.Nat.{_+_, _*_, _/_, _%_, _^_, _-_, _≤_}
 use Rattle.texels.specs.Texels.{expand4}
-use Rattle.blocks.specs.Blocks.{explicitAlpha}
+use Rattle.alpha_blocks.specs.AlphaBlocks.{explicitAlpha}
 use Rattle.lists.proofs.Tables.{tab-none, tab-more}
 use Rattle.lists.specs.Lists.{tab}
 use lib.ListN.{drop, getD}
@@ -9,8 +9,8 @@ use borrow.Author.Needs.{needs}
 use native.Mathlib.Omega.{arith}
 use mathlib.Core.List.{_++_, append-nil}
 use mathlib.Core.Path.{_≡_, _∙_}
-use Rattle.blocks.proofs.explicit_alpha_block.Statement.{statement}
-use Rattle.blocks.proofs.explicit_alpha_block.Tie as tie
+use Rattle.alpha_blocks.proofs.explicit_alpha_block.Statement.{statement}
+use Rattle.alpha_blocks.proofs.explicit_alpha_block.Tie as tie
 
 abbrev Inv-loop : tie.InvT-loop
 Inv-loop s at out₀ i₀ out i =
