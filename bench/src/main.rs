@@ -19,7 +19,7 @@ pub trait Workload {
     /// One turn of the Rust.
     fn rust(&mut self);
     /// Whether a turn of each left the same.
-    fn agree(&self) -> bool;
+    fn agree(&mut self) -> bool;
 }
 
 struct Effort {

@@ -129,7 +129,7 @@ impl Workload for Draw {
         }
     }
 
-    fn agree(&self) -> bool {
+    fn agree(&mut self) -> bool {
         let ((colors, depths, count), (target, written)) = (&self.port, &self.rust);
         let near = colors.iter().zip(&target.color).all(|(a, b)| a.abs_diff(*b) <= self.apart);
         near && *depths == target.depth && count == written && (self.unit == Unit::Pixel || *count > 0)

@@ -55,7 +55,7 @@ impl Workload for ToByte {
         }
     }
 
-    fn agree(&self) -> bool {
+    fn agree(&mut self) -> bool {
         self.port == self.rust
     }
 }
@@ -96,7 +96,7 @@ impl Workload for Floor {
         }
     }
 
-    fn agree(&self) -> bool {
+    fn agree(&mut self) -> bool {
         self.port.iter().zip(&self.rust).all(|(a, b)| a.to_bits() == b.to_bits())
     }
 }

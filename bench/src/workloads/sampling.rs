@@ -93,7 +93,7 @@ impl Workload for Sampling {
         }
     }
 
-    fn agree(&self) -> bool {
+    fn agree(&mut self) -> bool {
         self.port.iter().zip(&self.rust).all(|(a, b)| {
             let (a, b) = (a.to_le_bytes(), b.to_le_bytes());
             (0..4).all(|i| (i32::from(a[i]) - i32::from(b[i])).abs() <= self.apart)

@@ -1,4 +1,5 @@
-//! Clears and the 5-6-5 export at 800 by 480; a unit is a pixel that is written.
+//! Clears and the 5-6-5 export at 800 by 480; a unit is a pixel that is written. Port and Rust clear one target in turn: how fast a store is
+//! depends on where the process has its memory, and so neither side has the better places.
 use crate::Workload;
 use oracle::raster::RenderTarget;
 use port::target::Scissor;
@@ -30,13 +31,12 @@ fn units(scissor: Scissor) -> u64 {
 struct ClearColor {
     name: &'static str,
     scissor: Scissor,
-    port: Vec<u8>,
-    rust: RenderTarget,
+    target: RenderTarget,
 }
 
 impl ClearColor {
     fn new(name: &'static str, scissor: Scissor) -> Self {
-        Self { name, scissor, port: vec![0; 4 * PIXELS], rust: RenderTarget::new(WIDTH, HEIGHT) }
+        Self { name, scissor, target: RenderTarget::new(WIDTH, HEIGHT) }
     }
 }
 
@@ -54,28 +54,32 @@ impl Workload for ClearColor {
     }
 
     fn port(&mut self) {
-        port::target::clear_color(black_box(&mut self.port), PIXELS, WIDTH, HEIGHT, black_box(RGBA), black_box(self.scissor));
+        port::target::clear_color(black_box(&mut self.target.color), PIXELS, WIDTH, HEIGHT, black_box(RGBA), black_box(self.scissor));
     }
 
     fn rust(&mut self) {
-        black_box(&mut self.rust).clear_color(black_box(RGBA), black_box(self.scissor));
+        black_box(&mut self.target).clear_color(black_box(RGBA), black_box(self.scissor));
     }
 
-    fn agree(&self) -> bool {
-        self.port == self.rust.color
+    fn agree(&mut self) -> bool {
+        self.target.color.fill(0);
+        self.port();
+        let port = self.target.color.clone();
+        self.target.color.fill(0);
+        self.rust();
+        port == self.target.color
     }
 }
 
 struct ClearDepth {
     name: &'static str,
     scissor: Scissor,
-    port: Vec<f32>,
-    rust: RenderTarget,
+    target: RenderTarget,
 }
 
 impl ClearDepth {
     fn new(name: &'static str, scissor: Scissor) -> Self {
-        Self { name, scissor, port: vec![1.0; PIXELS], rust: RenderTarget::new(WIDTH, HEIGHT) }
+        Self { name, scissor, target: RenderTarget::new(WIDTH, HEIGHT) }
     }
 }
 
@@ -93,15 +97,20 @@ impl Workload for ClearDepth {
     }
 
     fn port(&mut self) {
-        port::target::clear_depth(black_box(&mut self.port), 4 * PIXELS, WIDTH, HEIGHT, black_box(DEPTH), black_box(self.scissor));
+        port::target::clear_depth(black_box(&mut self.target.depth), 4 * PIXELS, WIDTH, HEIGHT, black_box(DEPTH), black_box(self.scissor));
     }
 
     fn rust(&mut self) {
-        black_box(&mut self.rust).clear_depth(black_box(DEPTH), black_box(self.scissor));
+        black_box(&mut self.target).clear_depth(black_box(DEPTH), black_box(self.scissor));
     }
 
-    fn agree(&self) -> bool {
-        self.port == self.rust.depth
+    fn agree(&mut self) -> bool {
+        self.target.depth.fill(1.0);
+        self.port();
+        let port = self.target.depth.clone();
+        self.target.depth.fill(1.0);
+        self.rust();
+        port == self.target.depth
     }
 }
 
@@ -144,7 +153,7 @@ impl Workload for Export {
         black_box(&self.target).to_rgb565(black_box(&mut self.rust));
     }
 
-    fn agree(&self) -> bool {
+    fn agree(&mut self) -> bool {
         self.port == self.rust
     }
 }

@@ -79,7 +79,7 @@ impl Workload for Decode {
         self.rust = black_box(image.expect("the Rust decodes it"));
     }
 
-    fn agree(&self) -> bool {
+    fn agree(&mut self) -> bool {
         self.port == self.rust
     }
 }

@@ -58,35 +58,40 @@ impl Workload for Define {
         black_box(&mut self.rust).define_level(0, SIDE, SIDE, copy);
     }
 
-    fn agree(&self) -> bool {
+    fn agree(&mut self) -> bool {
         self.store == self.rust.rgba
     }
 }
 
-/// A patch of 64 by 64 texels inside a level of 256 by 256, of one texture after the other: how fast a copy is depends on where in memory
-/// its two ends lie, and over several textures neither side has the better places.
+/// A patch of 64 by 64 texels inside a level of 256 by 256, of one texture after the other. How fast a copy is depends on where in memory its
+/// two ends lie: the port's store is the Rust's own texels, so that neither side has the better places.
 struct Patch {
     patch: Vec<u8>,
-    port: Vec<(Vec<u8>, Vec<u8>)>,
-    rust: Vec<Texture>,
+    textures: Vec<(Vec<u8>, Texture)>,
 }
 
 const TEXTURES: usize = 8;
 
 impl Patch {
     fn new() -> Self {
-        let (mut port, mut rust) = (Vec::new(), Vec::new());
+        let mut textures = Vec::new();
         for _ in 0..TEXTURES {
             let mut record = new_record();
-            let mut store = vec![0; BYTES];
-            let level = image(BYTES, 9);
-            assert_eq!(port::texture::define_level(&mut record, &mut store, 0, SIDE, SIDE, 0, &level), 0);
             let mut texture = Texture::default();
-            texture.define_level(0, SIDE, SIDE, level);
-            port.push((record, store));
-            rust.push(texture);
+            texture.define_level(0, SIDE, SIDE, vec![0; BYTES]);
+            assert_eq!(port::texture::define_level(&mut record, &mut texture.rgba, 0, SIDE, SIDE, 0, &image(BYTES, 9)), 0);
+            textures.push((record, texture));
         }
-        Self { patch: image(4 * (PATCH * PATCH) as usize, 77), port, rust }
+        Self { patch: image(4 * (PATCH * PATCH) as usize, 77), textures }
+    }
+
+    /// The texels of all textures after `turn`, from one start.
+    fn left(&mut self, turn: fn(&mut Self)) -> Vec<Vec<u8>> {
+        for (_, texture) in &mut self.textures {
+            texture.rgba.copy_from_slice(&image(BYTES, 9));
+        }
+        turn(self);
+        self.textures.iter().map(|(_, texture)| texture.rgba.clone()).collect()
     }
 }
 
@@ -104,19 +109,19 @@ impl Workload for Patch {
     }
 
     fn port(&mut self) {
-        for (record, store) in &mut self.port {
-            let number = port::texture::patch_level(record, black_box(store), 0, [100, 60, PATCH, PATCH], black_box(&self.patch));
+        for (record, texture) in &mut self.textures {
+            let number = port::texture::patch_level(record, black_box(&mut texture.rgba), 0, [100, 60, PATCH, PATCH], black_box(&self.patch));
             assert_eq!(number, 0);
         }
     }
 
     fn rust(&mut self) {
-        for texture in &mut self.rust {
+        for (_, texture) in &mut self.textures {
             black_box(texture).patch_level(0, 100, 60, PATCH, PATCH, black_box(&self.patch)).expect("inside the level");
         }
     }
 
-    fn agree(&self) -> bool {
-        self.port.iter().zip(&self.rust).all(|((_, store), texture)| *store == texture.rgba)
+    fn agree(&mut self) -> bool {
+        self.left(Self::port) == self.left(Self::rust)
     }
 }
