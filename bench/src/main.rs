@@ -22,6 +22,16 @@ pub trait Workload {
     fn agree(&mut self) -> bool;
 }
 
+/// Whether a turn of each, from the same start, leaves the same: for a workload whose two sides work on one memory.
+pub fn agree_from<W: Workload, L: PartialEq>(work: &mut W, start: impl Fn(&mut W), left: impl Fn(&W) -> L) -> bool {
+    start(work);
+    work.port();
+    let port = left(work);
+    start(work);
+    work.rust();
+    port == left(work)
+}
+
 struct Effort {
     rounds: u32,
     /// How long each side runs in a round.
@@ -84,11 +94,17 @@ fn measure(work: &mut dyn Workload, effort: &Effort, mut best: Best) -> Best {
     best
 }
 
-fn line(work: &mut dyn Workload, effort: &Effort) -> Result<(), String> {
+/// Why a line fails, as an exit status. A missed bar may be noise, and is worth another process; a disagreement never is.
+const DISAGREE: u8 = 1;
+const MISSED: u8 = 4;
+
+/// Prints the line, and why it fails.
+fn line(work: &mut dyn Workload, effort: &Effort) -> Result<(), u8> {
     work.port();
     work.rust();
     if !work.agree() {
-        return Err(format!("{}: the two sides do not agree", work.name()));
+        println!("BENCH FAILED {}: the two sides do not agree", work.name());
+        return Err(DISAGREE);
     }
     let mut best = measure(work, effort, Best { port: f64::INFINITY, rust: f64::INFINITY });
     let bar = work.bar().map_or(f64::INFINITY, |bar| bar * NOISE);
@@ -100,7 +116,8 @@ fn line(work: &mut dyn Workload, effort: &Effort) -> Result<(), String> {
     }
     println!("{} {:.3} {:.3} {:.2}", work.name(), best.port, best.rust, best.ratio());
     if effort.again > 0 && best.ratio() > bar {
-        return Err(format!("{}: ratio {:.2} misses the bar of {:.2}", work.name(), best.ratio(), bar / NOISE));
+        println!("BENCH FAILED {}: ratio {:.2} misses the bar of {:.2}", work.name(), best.ratio(), bar / NOISE);
+        return Err(MISSED);
     }
     Ok(())
 }
@@ -128,14 +145,12 @@ fn main() -> ExitCode {
             }
         }
     }
-    let mut status = ExitCode::SUCCESS;
+    let mut failed = Vec::new();
     for work in &mut all {
         if names.is_empty() || names.iter().any(|name| name == work.name()) {
-            if let Err(words) = line(work.as_mut(), if check { &BRIEF } else { &WHOLE }) {
-                println!("BENCH FAILED {words}");
-                status = ExitCode::from(1);
-            }
+            failed.extend(line(work.as_mut(), if check { &BRIEF } else { &WHOLE }).err());
         }
     }
-    status
+    // The worst: a disagreement before a missed bar.
+    failed.into_iter().min().map_or(ExitCode::SUCCESS, ExitCode::from)
 }

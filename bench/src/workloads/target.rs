@@ -1,6 +1,6 @@
 //! Clears and the 5-6-5 export at 800 by 480; a unit is a pixel that is written. Port and Rust clear one target in turn: how fast a store is
 //! depends on where the process has its memory, and so neither side has the better places.
-use crate::Workload;
+use crate::{agree_from, Workload};
 use oracle::raster::RenderTarget;
 use port::target::Scissor;
 use std::hint::black_box;
@@ -62,12 +62,7 @@ impl Workload for ClearColor {
     }
 
     fn agree(&mut self) -> bool {
-        self.target.color.fill(0);
-        self.port();
-        let port = self.target.color.clone();
-        self.target.color.fill(0);
-        self.rust();
-        port == self.target.color
+        agree_from(self, |work| work.target.color.fill(0), |work| work.target.color.clone())
     }
 }
 
@@ -105,12 +100,7 @@ impl Workload for ClearDepth {
     }
 
     fn agree(&mut self) -> bool {
-        self.target.depth.fill(1.0);
-        self.port();
-        let port = self.target.depth.clone();
-        self.target.depth.fill(1.0);
-        self.rust();
-        port == self.target.depth
+        agree_from(self, |work| work.target.depth.fill(1.0), |work| work.target.depth.clone())
     }
 }
 

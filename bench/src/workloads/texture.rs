@@ -1,5 +1,5 @@
 //! Texture objects; a unit is a byte.
-use crate::Workload;
+use crate::{agree_from, Workload};
 use oracle::texture::Texture;
 use std::hint::black_box;
 
@@ -84,15 +84,6 @@ impl Patch {
         }
         Self { patch: image(4 * (PATCH * PATCH) as usize, 77), textures }
     }
-
-    /// The texels of all textures after `turn`, from one start.
-    fn left(&mut self, turn: fn(&mut Self)) -> Vec<Vec<u8>> {
-        for (_, texture) in &mut self.textures {
-            texture.rgba.copy_from_slice(&image(BYTES, 9));
-        }
-        turn(self);
-        self.textures.iter().map(|(_, texture)| texture.rgba.clone()).collect()
-    }
 }
 
 impl Workload for Patch {
@@ -122,6 +113,11 @@ impl Workload for Patch {
     }
 
     fn agree(&mut self) -> bool {
-        self.left(Self::port) == self.left(Self::rust)
+        let start = image(BYTES, 9);
+        agree_from(
+            self,
+            |work| work.textures.iter_mut().for_each(|(_, texture)| texture.rgba.copy_from_slice(&start)),
+            |work| work.textures.iter().map(|(_, texture)| texture.rgba.clone()).collect::<Vec<_>>(),
+        )
     }
 }
