@@ -38,9 +38,9 @@ impl TexelType {
 pub struct CompressedFormat(pub u32);
 
 impl CompressedFormat {
-    /// DXT1 without alpha.
+    /// DXT1 without alpha: each texel's is 255.
     pub const RGB_S3TC_DXT1: CompressedFormat = CompressedFormat(0x83F0);
-    /// DXT1 with alpha.
+    /// DXT1 with alpha: 0 for the fourth colour of a block whose first endpoint is not above its second, else 255.
     pub const RGBA_S3TC_DXT1: CompressedFormat = CompressedFormat(0x83F1);
     /// ATC without alpha.
     pub const ATC_RGB: CompressedFormat = CompressedFormat(0x8C92);
@@ -118,6 +118,13 @@ pub fn decode_to_rgba_into(data: &[u8], width: u32, height: u32, format: Format,
 /// let block = [0x00, 0xF8, 0x1F, 0x00, 0xAA, 0xAA, 0xAA, 0xAA];
 /// let image = decode_compressed_to_rgba(&block, 4, 4, CompressedFormat::RGB_S3TC_DXT1).unwrap();
 /// assert_eq!(image, [170, 0, 85, 255].repeat(16));
+///
+/// // Black, with a first endpoint that is not above the second: opaque, but for the code that has alpha.
+/// let block = [0x1F, 0x00, 0x00, 0xF8, 0xFF, 0xFF, 0xFF, 0xFF];
+/// let image = decode_compressed_to_rgba(&block, 4, 4, CompressedFormat::RGB_S3TC_DXT1).unwrap();
+/// assert_eq!(image, [0, 0, 0, 255].repeat(16));
+/// let image = decode_compressed_to_rgba(&block, 4, 4, CompressedFormat::RGBA_S3TC_DXT1).unwrap();
+/// assert_eq!(image, [0; 64]);
 /// ```
 pub fn decode_compressed_to_rgba(data: &[u8], width: u32, height: u32, format: CompressedFormat) -> Result<Vec<u8>, Refusal> {
     let mut out = output(width, height);

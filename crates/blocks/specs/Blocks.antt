@@ -74,14 +74,14 @@ dxt1 s at = chosen (dxt1Palette (half s at) (half s (at + 2))) (word s (at + 4))
 unfoldable pub atc : List ℕ → ℕ → List (List ℕ)
 atc s at = chosen (atcPalette (half s at) (half s (at + 2))) (word s (at + 4))
 
--- document 01, Corners: alpha is 0 exactly if c0 <= c1 and the selector is 3
+-- document 01, Corners: alpha is 0 exactly if c0 <= c1 and the selector is 3; by 2026-02 for RGBA_S3TC_DXT1 only
 unfoldable pub dxt1AlphaOf : ℕ → ℕ → ℕ → ℕ
 dxt1AlphaOf c0 c1 sel = cond (ltb c1 c0) 255 (cond (eqb sel 3) 0 255)
 
 unfoldable pub dxt1Alpha : List ℕ → ℕ → List ℕ
 dxt1Alpha s at = tab 16 (λ i. dxt1AlphaOf (half s at) (half s (at + 2)) (selector 2 (word s (at + 4)) i))
 
--- texture.rs, decode_compressed_to_rgba: alpha of a format that has none
+-- alpha of a format that has none: 255 throughout
 unfoldable pub opaque : List ℕ
 opaque = tab 16 (λ i. 255)
 
@@ -111,9 +111,10 @@ isDxt1 AtcInterpolated = false
 abbrev pub blockRgb : Block → List ℕ → ℕ → List (List ℕ)
 blockRgb b s at = cond (isDxt1 b) (dxt1 s (at + alphaBytes b)) (atc s (at + alphaBytes b))
 
--- texture.rs, decode_compressed_to_rgba: both DXT1 codes have the same alphas
+-- EXT_texture_compression_s3tc, RGB_S3TC_DXT1: it has no alpha, so its black is opaque (2026-02). The others: texture.rs,
+-- decode_compressed_to_rgba
 abbrev pub blockAlpha : Block → List ℕ → ℕ → List ℕ
-blockAlpha Dxt1Rgb s at = dxt1Alpha s at
+blockAlpha Dxt1Rgb s at = opaque
 blockAlpha Dxt1Rgba s at = dxt1Alpha s at
 blockAlpha AtcRgb s at = opaque
 blockAlpha AtcExplicit s at = explicitAlpha s at

@@ -218,7 +218,7 @@ pub fn block_alpha(b: Block, s: &[u8], at: usize) -> [u8; 16]
     ensures { λ r. ⌜ r ≡ blockAlpha b (now (s .entry)) at ⌝ }
 {
     match b {
-        Block::Dxt1Rgb => dxt1_alpha_block(s, at),
+        Block::Dxt1Rgb => opaque_block(),
         Block::Dxt1Rgba => dxt1_alpha_block(s, at),
         Block::AtcRgb => opaque_block(),
         Block::AtcExplicit => explicit_alpha_block(s, at),

@@ -57,7 +57,13 @@ fn before(n: usize) -> Vec<u8> {
 /// What stands in the size before a query.
 const SIZE_BEFORE: usize = 77;
 
-/// Document 01's answer, with the Rust's bytes. Where the Rust itself refuses, it must be 14 or 11.
+/// 2026-02: an image of 83F0 is the Rust's with each alpha 255.
+fn made_opaque(mut image: Vec<u8>) -> Vec<u8> {
+    image.iter_mut().skip(3).step_by(4).for_each(|alpha| *alpha = 255);
+    image
+}
+
+/// Document 01's answer, with the Rust's bytes; those of 83F0 made opaque. Where the Rust itself refuses, it must be 14 or 11.
 fn wanted(call: &Call) -> Left {
     let Call { op, width, height, format, ty, ref data, out } = *call;
     let large = width > 1024 || height > 1024;
@@ -88,6 +94,7 @@ fn wanted(call: &Call) -> Left {
                 None if size.is_none() => refused(14),
                 None => refused(11),
                 Some(_) if out != needed => refused(15),
+                Some(image) if format == DXT1[0] => done(made_opaque(image)),
                 Some(image) => done(image),
             }
         }
@@ -149,6 +156,16 @@ fn name(op: Op) -> &'static str {
     OPS.iter().find(|(o, _)| *o == op).expect("every operation has a name").1
 }
 
+/// Counts the texels that the Rust makes transparent: with 83F0 those that the port has opaque, with 83F1 those that it has transparent too.
+fn count_black(tally: &mut Tally, format: u32, rust: &[u8], port: &[u8]) {
+    let (name, alpha) = if format == DXT1[0] { (OPAQUE_BLACK, 255) } else { (TRANSPARENT_BLACK, 0) };
+    let black = rust.chunks(4).zip(port.chunks(4)).filter(|(rust, port)| rust[3] == 0 && **port == [0, 0, 0, alpha]);
+    tally.add(name, black.count() as u64);
+}
+
+const OPAQUE_BLACK: &str = "texels of 83F0 that the Rust makes transparent, the port opaque";
+const TRANSPARENT_BLACK: &str = "texels of 83F1 that both make transparent";
+
 fn try_call(tally: &mut Tally, call: &Call) {
     let number = tally.case(call, check, smaller);
     tally.count(&format!("{} answered {number}", name(call.op)));
@@ -158,6 +175,10 @@ fn try_call(tally: &mut Tally, call: &Call) {
             tally.count("images with a zero side");
         } else if call.op == Op::Compressed {
             tally.count(&format!("images of {:04X}", call.format));
+            if DXT1.contains(&call.format) {
+                let rust = rust::decode_compressed_to_rgba(&call.data, w, h, call.format).expect("it was answered with 0");
+                count_black(tally, call.format, &rust, &answered(call).out);
+            }
             if w % 4 != 0 || h % 4 != 0 {
                 tally.count("compressed images with overhang or odd rows");
             }
@@ -283,7 +304,7 @@ fn try_block(tally: &mut Tally, block: [u8; 8], alphas: [u8; 8]) {
         let both = [alphas, block].concat();
         let explicit: [u8; 16] = std::array::from_fn(|i| rust::probe::expand4(u16::from(alphas[i / 2] >> (4 * (i % 2)))));
         let wanted = [
-            (DXT1[0], texels_of(DXT1[0], &block), joined(rgb, alpha)),
+            (DXT1[0], texels_of(DXT1[0], &block), joined(rgb, [255; 16])),
             (DXT1[1], texels_of(DXT1[1], &block), joined(rgb, alpha)),
             (ATC[0], texels_of(ATC[0], &block), joined(atc, [255; 16])),
             (ATC[1], texels_of(ATC[1], &both), joined(atc, explicit)),
@@ -293,6 +314,10 @@ fn try_block(tally: &mut Tally, block: [u8; 8], alphas: [u8; 8]) {
         ((), wrong.map(|(format, port, rust)| format!("a block of {format:04X}: {rust:?} from the Rust, {port:?} from the port")))
     };
     tally.case(&(block, alphas), difference, |_| Vec::new());
+    let (rgb, alpha) = rust::probe::dxt1_rgb_block(&block);
+    for format in DXT1 {
+        count_black(tally, format, joined(rgb, alpha).as_flattened(), texels_of(format, &block).as_flattened());
+    }
 }
 
 /// Every pair of ends of an alpha block; endpoints of every order; any block.
@@ -354,6 +379,17 @@ fn blocks(ctx: &mut Ctx) {
             tally.count("random blocks");
         }
     });
+    // The worked cases of 2026-02, under both codes.
+    for block in [
+        [0x1F, 0x00, 0x00, 0xF8, 0xFF, 0xFF, 0xFF, 0xFF],
+        [0x00, 0xF8, 0x00, 0xF8, 0xFF, 0xFF, 0xFF, 0xFF],
+        [0x00, 0xF8, 0x00, 0xF8, 0xAA, 0xAA, 0xAA, 0xAA],
+        [0x00, 0xF8, 0x1F, 0x00, 0xFF, 0xFF, 0xFF, 0xFF],
+    ] {
+        try_block(&mut ctx.tally, block, [0; 8]);
+        ctx.tally.count("black blocks worked");
+    }
+    ctx.floor("black blocks worked", 4);
     for name in ["endpoints rising", "endpoints falling", "ATC mode 0", "ATC mode 1"] {
         ctx.floor(name, 200);
     }
@@ -424,6 +460,9 @@ fn run(ctx: &mut Ctx) {
         for number in numbers {
             ctx.floor(&format!("{op} answered {number}"), 1000);
         }
+    }
+    for name in [OPAQUE_BLACK, TRANSPARENT_BLACK] {
+        ctx.floor(name, 500_000);
     }
     ctx.floor("images with a zero side", 1000);
     ctx.floor("compressed images with overhang or odd rows", 1000);

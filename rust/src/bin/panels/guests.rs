@@ -1,5 +1,6 @@
 //! The forty guests. Each keeps to what document 01 asks of guests that share a frame: scissor boxes within its window, textures of its own,
 //! and bytes of the store of its own.
+use crate::art;
 use crate::machine::{Call, Random, GUESTS, HEIGHT, REGION};
 use crate::pen::{circle, project, Color, Pen};
 use tilefringe::{
@@ -30,13 +31,14 @@ enum Kind {
     Trend,
     Solids,
     Board,
+    Picture,
 }
 
 const KINDS: [Kind; GUESTS] = {
     use Kind::*;
     [
         Pump, Kiln, Lettering, Gauges, Overlay, Refused, Tanks, Trend, //
-        Solids, Board, Pump, Kiln, Lettering, Gauges, Overlay, Tanks, //
+        Solids, Board, Pump, Kiln, Lettering, Gauges, Overlay, Picture, //
         Trend, Solids, Board, Pump, Kiln, Lettering, Gauges, Overlay, //
         Tanks, Trend, Solids, Board, Pump, Kiln, Lettering, Gauges, //
         Overlay, Tanks, Trend, Solids, Board, Gauges, Kiln, Pump,
@@ -58,6 +60,7 @@ pub fn calls(guest: usize, overlap: bool) -> Vec<Call> {
         Kind::Trend => trend(&mut pen, random),
         Kind::Solids => solids(&mut pen, random),
         Kind::Board => board(&mut pen, random),
+        Kind::Picture => picture(&mut pen, random),
     }
     pen.calls
 }
@@ -441,10 +444,57 @@ fn board(pen: &mut Pen, random: &mut Random) {
     pen.text(30, 83, 1, INK, "BUS OK");
 }
 
+/// How far from each other the tank is shown twice.
+const APART: i32 = 48;
+
+/// One DXT1 picture under both codes, drawn where its alpha is above a half: 83F0 has no holes.
+fn picture(pen: &mut Pen, random: &mut Random) {
+    open(pen, "TANK");
+    let [width, height] = art::TANK;
+    let data = art::tank(4 + random.below(20) as i32);
+    pen.shaded(1, 12, 98, 83, [120, 70, 10, 255], AMBER);
+    let opaque = Settings { alpha_test: true, alpha_func: CompareFunc::Greater, alpha_ref: 0.5, ..pen.settings() };
+    for (x, format) in [(6, CompressedFormat::RGB_S3TC_DXT1), (6 + APART, CompressedFormat::RGBA_S3TC_DXT1)] {
+        let image = decode_compressed_to_rgba(&data, width, height, format).expect("whole blocks");
+        pen.define(0, 0, width, height, image);
+        pen.filters(0, MinFilter::Nearest, Filter::Nearest);
+        pen.textured([x, 15, width as i32, height as i32], [0.0, 0.0, 1.0, 1.0], [255; 4], opaque);
+        pen.text(x + 8, 83, 1, [30, 18, 4, 255], &format!("{:04X}", format.0));
+    }
+}
+
 #[cfg(test)]
 mod tests {
     use super::*;
     use crate::machine::Machine;
+
+    #[test]
+    fn the_picture_has_holes_under_83f1_alone() {
+        let frame = |pictures: bool| {
+            let mut machine = Machine::start();
+            for call in calls(15, false) {
+                if pictures || !matches!(&call, Call::Draw(draw) if draw.stages.iter().any(|stage| stage.unit == 0)) {
+                    machine.call(&call).unwrap();
+                }
+            }
+            machine.target
+        };
+        let (shown, ground) = (frame(true), frame(false));
+        let mut holes = 0;
+        for row in 15..15 + 64 {
+            for x in 6..6 + 40 {
+                let (left, right) = (700 + x, 700 + x + APART as u32);
+                let (opaque, other) = (shown.pixel(left, 96 + row), shown.pixel(right, 96 + row));
+                if opaque == Some([0, 0, 0, 255]) {
+                    holes += 1;
+                    assert_eq!(other, ground.pixel(right, 96 + row));
+                } else {
+                    assert_eq!(other, opaque);
+                }
+            }
+        }
+        assert!(holes > 300);
+    }
 
     #[test]
     fn every_colour_of_the_pump_panel_has_a_rule() {

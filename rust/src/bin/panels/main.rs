@@ -1,4 +1,5 @@
 //! Forty guests on one frame, their calls interleaved by a seed, and each guest alone.
+mod art;
 mod font;
 mod guests;
 mod machine;
