@@ -453,12 +453,11 @@ fn picture(pen: &mut Pen, random: &mut Random) {
     let [width, height] = art::TANK;
     let data = art::tank(4 + random.below(20) as i32);
     pen.shaded(1, 12, 98, 83, [120, 70, 10, 255], AMBER);
-    let opaque = Settings { alpha_test: true, alpha_func: CompareFunc::Greater, alpha_ref: 0.5, ..pen.settings() };
     for (x, format) in [(6, CompressedFormat::RGB_S3TC_DXT1), (6 + APART, CompressedFormat::RGBA_S3TC_DXT1)] {
         let image = decode_compressed_to_rgba(&data, width, height, format).expect("whole blocks");
         pen.define(0, 0, width, height, image);
         pen.filters(0, MinFilter::Nearest, Filter::Nearest);
-        pen.textured([x, 15, width as i32, height as i32], [0.0, 0.0, 1.0, 1.0], [255; 4], opaque);
+        pen.textured([x, 15, width as i32, height as i32], [0.0, 0.0, 1.0, 1.0], [255; 4], pen.cut_out());
         pen.text(x + 8, 83, 1, [30, 18, 4, 255], &format!("{:04X}", format.0));
     }
 }

@@ -63,6 +63,11 @@ impl Pen {
         Settings { viewport: self.window, scissor: Some(self.window), ..Settings::default() }
     }
 
+    /// The same, where only what has an alpha above a half is drawn.
+    pub fn cut_out(&self) -> Settings {
+        Settings { alpha_test: true, alpha_func: CompareFunc::Greater, alpha_ref: 0.5, ..self.settings() }
+    }
+
     /// The whole window in one colour, and its depths 1.
     pub fn clear(&mut self, color: Color) {
         let scissor = Some(self.window);
@@ -172,7 +177,7 @@ impl Pen {
             self.filters(FONT, MinFilter::Nearest, Filter::Nearest);
             self.lettered = true;
         }
-        let settings = Settings { alpha_test: true, alpha_func: CompareFunc::Greater, alpha_ref: 0.5, ..self.settings() };
+        let settings = self.cut_out();
         let stage = Stage::new(FONT as u32, Environment::Modulate);
         for (i, character) in text.chars().enumerate().filter(|(_, c)| *c != ' ') {
             let place = [x + 6 * size * i as i32, y, 5 * size, 7 * size];
