@@ -81,7 +81,7 @@ dxt1AlphaOf c0 c1 sel = cond (ltb c1 c0) 255 (cond (eqb sel 3) 0 255)
 unfoldable pub dxt1Alpha : List ℕ → ℕ → List ℕ
 dxt1Alpha s at = tab 16 (λ i. dxt1AlphaOf (half s at) (half s (at + 2)) (selector 2 (word s (at + 4)) i))
 
--- alpha of a format that has none: 255 throughout
+-- texture.rs, decode_compressed_to_rgba: alpha of a format that has none, there GL_ATC_RGB_AMD, by 2026-02 RGB_S3TC_DXT1 too
 unfoldable pub opaque : List ℕ
 opaque = tab 16 (λ i. 255)
 

@@ -125,7 +125,7 @@ fn check(call: &Call) -> (u32, Option<String>) {
     } else if rust.size != port.size {
         Some(format!("size {} from the Rust, {} from the port", rust.size, port.size))
     } else {
-        same::bytes("output", &rust.out, &port.out)
+        same::bytes(if call.format == DXT1[0] { "output, each alpha of the Rust's made 255" } else { "output" }, &rust.out, &port.out)
     };
     (rust.number, words)
 }
@@ -156,15 +156,15 @@ fn name(op: Op) -> &'static str {
     OPS.iter().find(|(o, _)| *o == op).expect("every operation has a name").1
 }
 
+const OPAQUE_BLACK: &str = "texels of 83F0 that the Rust makes transparent, the port opaque";
+const TRANSPARENT_BLACK: &str = "texels of 83F1 that both make transparent";
+
 /// Counts the texels that the Rust makes transparent: with 83F0 those that the port has opaque, with 83F1 those that it has transparent too.
 fn count_black(tally: &mut Tally, format: u32, rust: &[u8], port: &[u8]) {
     let (name, alpha) = if format == DXT1[0] { (OPAQUE_BLACK, 255) } else { (TRANSPARENT_BLACK, 0) };
     let black = rust.chunks(4).zip(port.chunks(4)).filter(|(rust, port)| rust[3] == 0 && **port == [0, 0, 0, alpha]);
     tally.add(name, black.count() as u64);
 }
-
-const OPAQUE_BLACK: &str = "texels of 83F0 that the Rust makes transparent, the port opaque";
-const TRANSPARENT_BLACK: &str = "texels of 83F1 that both make transparent";
 
 fn try_call(tally: &mut Tally, call: &Call) {
     let number = tally.case(call, check, smaller);
@@ -311,7 +311,7 @@ fn try_block(tally: &mut Tally, block: [u8; 8], alphas: [u8; 8]) {
             (ATC[2], texels_of(ATC[2], &both), joined(atc, rust::probe::interpolated_alpha_block(&alphas))),
         ];
         let wrong = wanted.into_iter().find(|(_, port, rust)| port != rust);
-        ((), wrong.map(|(format, port, rust)| format!("a block of {format:04X}: {rust:?} from the Rust, {port:?} from the port")))
+        ((), wrong.map(|(format, port, rust)| format!("a block of {format:04X}: {rust:?} wanted, {port:?} from the port")))
     };
     tally.case(&(block, alphas), difference, |_| Vec::new());
     let (rgb, alpha) = rust::probe::dxt1_rgb_block(&block);
