@@ -12,7 +12,7 @@ use lib.Seq.{paste, length-paste}
 use Rattle.lists.specs.Lists.{iter}
 use Rattle.lists.proofs.Rows.{row-in}
 use Rattle.blocks.specs.declared.Block.{Block}
-use Rattle.blocks.specs.declared.Block.the-variants.{Dxt1Rgb, Dxt1Rgba, AtcRgb, AtcExplicit, AtcInterpolated}
+use Rattle.blocks.specs.declared.Block.the-variants.{Dxt1Rgb, Dxt1Rgba, Dxt3, Dxt5, AtcRgb, AtcExplicit, AtcInterpolated}
 use Rattle.blocks.specs.Blocks.{blockTexel, blockBytes}
 use Rattle.lists.proofs.Cells.{cell-same, cell-other}
 use Rattle.texels.specs.Image.{image}
@@ -181,6 +181,8 @@ block-four b s at i = refl
 pub few-bytes : (b : Block) → blockBytes b ≤ 16
 few-bytes Dxt1Rgb = omega arith
 few-bytes Dxt1Rgba = omega arith
+few-bytes Dxt3 = omega arith
+few-bytes Dxt5 = omega arith
 few-bytes AtcRgb = omega arith
 few-bytes AtcExplicit = omega arith
 few-bytes AtcInterpolated = omega arith

@@ -8,7 +8,7 @@ use Rattle.lists.specs.Lists.{tab}
 use Rattle.texels.specs.Texels.{expand5, expand6, half}
 use Rattle.alpha_blocks.specs.AlphaBlocks.{mixed, selector, word, explicitAlpha, interpolatedAlpha}
 use Rattle.blocks.specs.declared.Block.{Block}
-use Rattle.blocks.specs.declared.Block.the-variants.{Dxt1Rgb, Dxt1Rgba, AtcRgb, AtcExplicit, AtcInterpolated}
+use Rattle.blocks.specs.declared.Block.the-variants.{Dxt1Rgb, Dxt1Rgba, Dxt3, Dxt5, AtcRgb, AtcExplicit, AtcInterpolated}
 
 -- a mixture for each of three channels
 abbrev pub mixed3 : ℕ → ℕ → List ℕ → List ℕ → List ℕ
@@ -29,15 +29,19 @@ rgb555 c = expand5 (c / 1024) ∷ expand5 (c / 32) ∷ expand5 c ∷ []
 abbrev pub black : List ℕ
 black = 0 ∷ 0 ∷ 0 ∷ []
 
--- EXT_texture_compression_s3tc, RGB_S3TC_DXT1: color0 > color1 has two colours between, else there is the mean and black
-unfoldable pub dxt1Palette : ℕ → ℕ → List (List ℕ)
-dxt1Palette c0 c1 =
-    cond (ltb c1 c0)
-    (rgb565 c0
+-- EXT_texture_compression_s3tc: the endpoints and two colours between them
+unfoldable pub fourColours : ℕ → ℕ → List (List ℕ)
+fourColours c0 c1 =
+    rgb565 c0
     ∷ rgb565 c1
     ∷ mixed3 1 3 (rgb565 c0) (rgb565 c1)
     ∷ mixed3 2 3 (rgb565 c0) (rgb565 c1)
-    ∷ [])
+    ∷ []
+
+-- EXT_texture_compression_s3tc, RGB_S3TC_DXT1: color0 > color1 has four colours, else there is the mean and black
+unfoldable pub dxt1Palette : ℕ → ℕ → List (List ℕ)
+dxt1Palette c0 c1 =
+    cond (ltb c1 c0) (fourColours c0 c1)
     (rgb565 c0 ∷ rgb565 c1 ∷ mixed3 1 2 (rgb565 c0) (rgb565 c1) ∷ black ∷ [])
 
 -- texture.rs, atc_rgb_block, mode 1: a less a quarter of b, at least 0
@@ -70,6 +74,10 @@ chosen palette bits = tab 16 (λ i. getD palette (selector 2 bits i) [])
 unfoldable pub dxt1 : List ℕ → ℕ → List (List ℕ)
 dxt1 s at = chosen (dxt1Palette (half s at) (half s (at + 2))) (word s (at + 4))
 
+-- EXT_texture_compression_s3tc, RGBA_S3TC_DXT3 and RGBA_S3TC_DXT5: four colours, whatever the endpoints' order (2026-14)
+unfoldable pub dxtFour : List ℕ → ℕ → List (List ℕ)
+dxtFour s at = chosen (fourColours (half s at) (half s (at + 2))) (word s (at + 4))
+
 -- texture.rs, atc_rgb_block
 unfoldable pub atc : List ℕ → ℕ → List (List ℕ)
 atc s at = chosen (atcPalette (half s at) (half s (at + 2))) (word s (at + 4))
@@ -85,18 +93,22 @@ dxt1Alpha s at = tab 16 (λ i. dxt1AlphaOf (half s at) (half s (at + 2)) (select
 unfoldable pub opaque : List ℕ
 opaque = tab 16 (λ i. 255)
 
--- texture.rs, compressed_image_size: the bytes of a block
+-- texture.rs, compressed_image_size: the bytes of a block. Dxt3 and Dxt5: EXT_texture_compression_s3tc, 128 bits a block (2026-14)
 abbrev pub blockBytes : Block → ℕ
 blockBytes Dxt1Rgb = 8
 blockBytes Dxt1Rgba = 8
+blockBytes Dxt3 = 16
+blockBytes Dxt5 = 16
 blockBytes AtcRgb = 8
 blockBytes AtcExplicit = 16
 blockBytes AtcInterpolated = 16
 
--- texture.rs, decode_compressed_to_rgba: a block of sixteen bytes has its alphas first
+-- texture.rs, decode_compressed_to_rgba: a block of sixteen bytes has its alphas first. So have Dxt3 and Dxt5 (2026-14)
 abbrev pub alphaBytes : Block → ℕ
 alphaBytes Dxt1Rgb = 0
 alphaBytes Dxt1Rgba = 0
+alphaBytes Dxt3 = 8
+alphaBytes Dxt5 = 8
 alphaBytes AtcRgb = 0
 alphaBytes AtcExplicit = 8
 alphaBytes AtcInterpolated = 8
@@ -104,18 +116,34 @@ alphaBytes AtcInterpolated = 8
 abbrev pub isDxt1 : Block → Bool
 isDxt1 Dxt1Rgb = true
 isDxt1 Dxt1Rgba = true
+isDxt1 Dxt3 = false
+isDxt1 Dxt5 = false
 isDxt1 AtcRgb = false
 isDxt1 AtcExplicit = false
 isDxt1 AtcInterpolated = false
 
-abbrev pub blockRgb : Block → List ℕ → ℕ → List (List ℕ)
-blockRgb b s at = cond (isDxt1 b) (dxt1 s (at + alphaBytes b)) (atc s (at + alphaBytes b))
+-- EXT_texture_compression_s3tc, RGBA_S3TC_DXT3 and RGBA_S3TC_DXT5 (2026-14)
+abbrev pub hasFour : Block → Bool
+hasFour Dxt1Rgb = false
+hasFour Dxt1Rgba = false
+hasFour Dxt3 = true
+hasFour Dxt5 = true
+hasFour AtcRgb = false
+hasFour AtcExplicit = false
+hasFour AtcInterpolated = false
 
--- EXT_texture_compression_s3tc, RGB_S3TC_DXT1: it has no alpha, so its black is opaque (2026-02). The others: texture.rs,
--- decode_compressed_to_rgba
+abbrev pub blockRgb : Block → List ℕ → ℕ → List (List ℕ)
+blockRgb b s at =
+    cond (isDxt1 b) (dxt1 s (at + alphaBytes b))
+    (cond (hasFour b) (dxtFour s (at + alphaBytes b)) (atc s (at + alphaBytes b)))
+
+-- EXT_texture_compression_s3tc, RGB_S3TC_DXT1: it has no alpha, so its black is opaque (2026-02). RGBA_S3TC_DXT3: four bits a
+-- texel; RGBA_S3TC_DXT5: two alphas and those between (2026-14). The others: texture.rs, decode_compressed_to_rgba
 abbrev pub blockAlpha : Block → List ℕ → ℕ → List ℕ
 blockAlpha Dxt1Rgb s at = opaque
 blockAlpha Dxt1Rgba s at = dxt1Alpha s at
+blockAlpha Dxt3 s at = explicitAlpha s at
+blockAlpha Dxt5 s at = interpolatedAlpha s at
 blockAlpha AtcRgb s at = opaque
 blockAlpha AtcExplicit s at = explicitAlpha s at
 blockAlpha AtcInterpolated s at = interpolatedAlpha s at

@@ -1,4 +1,4 @@
-// Blocks of four by four texels: DXT1 and ATC colours, and the alphas of each format (texture.rs).
+// Blocks of four by four texels: DXT and ATC colours, and the alphas of each format (texture.rs; DXT3 and DXT5 by 2026-14).
 use alpha_blocks::*;
 use texels::*;
 ghost use mathlib.Core.Path.{_≡_};
@@ -7,12 +7,14 @@ ghost use lib.ListN.{length};
 ghost use Rattle.texels.specs.Texels.{half};
 ghost use Rattle.lists.specs.Lists.{tab};
 ghost use Rattle.alpha_blocks.specs.AlphaBlocks.{selector, word};
-ghost use Rattle.blocks.specs.Blocks.{mixed3, rgb565, rgb555, dxt1Palette, lessQuarter, lessQuarter3, atcPalette, chosen, dxt1, atc, dxt1AlphaOf, dxt1Alpha, opaque, blockBytes, isDxt1, alphaBytes, blockRgb, blockAlpha};
+ghost use Rattle.blocks.specs.Blocks.{mixed3, rgb565, rgb555, fourColours, dxt1Palette, lessQuarter, lessQuarter3, atcPalette, chosen, dxt1, dxtFour, atc, dxt1AlphaOf, dxt1Alpha, opaque, blockBytes, isDxt1, hasFour, alphaBytes, blockRgb, blockAlpha};
 
 // The formats whose images are made of blocks.
 pub enum Block {
     Dxt1Rgb,
     Dxt1Rgba,
+    Dxt3,
+    Dxt5,
     AtcRgb,
     AtcExplicit,
     AtcInterpolated,
@@ -41,16 +43,23 @@ fn colour_555(c: u32) -> [u8; 3]
     [expand5(c / 1024), expand5(c / 32), expand5(c)]
 }
 
-fn dxt1_palette(c0: u32, c1: u32) -> [[u8; 3]; 4]
-    ensures { λ r. ⌜ r ≡ dxt1Palette c0 c1 ⌝ }
+fn four_colours(c0: u32, c1: u32) -> [[u8; 3]; 4]
+    ensures { λ r. ⌜ r ≡ fourColours c0 c1 ⌝ }
 {
     let e0 = colour_565(c0);
     let e1 = colour_565(c1);
+    [e0, e1, mix3(1, 3, e0, e1), mix3(2, 3, e0, e1)]
+}
+
+fn dxt1_palette(c0: u32, c1: u32) -> [[u8; 3]; 4]
+    ensures { λ r. ⌜ r ≡ dxt1Palette c0 c1 ⌝ }
+{
     if c0 > c1 {
-        [e0, e1, mix3(1, 3, e0, e1), mix3(2, 3, e0, e1)]
-    } else {
-        [e0, e1, mix3(1, 2, e0, e1), [0, 0, 0]]
+        return four_colours(c0, c1);
     }
+    let e0 = colour_565(c0);
+    let e1 = colour_565(c1);
+    [e0, e1, mix3(1, 2, e0, e1), [0, 0, 0]]
 }
 
 // A channel less a quarter of another, at least 0.
@@ -120,6 +129,14 @@ pub fn dxt1_rgb_block(s: &[u8], at: usize) -> [[u8; 3]; 16]
     chosen(palette, four_bytes(s, at + 4))
 }
 
+fn dxt_four_rgb_block(s: &[u8], at: usize) -> [[u8; 3]; 16]
+    requires { ⌜ at + 8 ≤ length (now s) ⌝ }
+    ensures { λ r. ⌜ r ≡ dxtFour (now (s .entry)) at ⌝ }
+{
+    let palette = four_colours(half(s, at), half(s, at + 2));
+    chosen(palette, four_bytes(s, at + 4))
+}
+
 pub fn atc_rgb_block(s: &[u8], at: usize) -> [[u8; 3]; 16]
     requires { ⌜ at + 8 ≤ length (now s) ⌝ }
     ensures { λ r. ⌜ r ≡ atc (now (s .entry)) at ⌝ }
@@ -169,6 +186,8 @@ pub fn block_bytes(b: Block) -> usize
     match b {
         Block::Dxt1Rgb => 8,
         Block::Dxt1Rgba => 8,
+        Block::Dxt3 => 16,
+        Block::Dxt5 => 16,
         Block::AtcRgb => 8,
         Block::AtcExplicit => 16,
         Block::AtcInterpolated => 16,
@@ -181,6 +200,23 @@ fn is_dxt1(b: Block) -> bool
     match b {
         Block::Dxt1Rgb => true,
         Block::Dxt1Rgba => true,
+        Block::Dxt3 => false,
+        Block::Dxt5 => false,
+        Block::AtcRgb => false,
+        Block::AtcExplicit => false,
+        Block::AtcInterpolated => false,
+    }
+}
+
+// Whether a block has four colours, whatever the order of its endpoints.
+fn has_four(b: Block) -> bool
+    ensures { λ r. ⌜ r ≡ hasFour b ⌝ }
+{
+    match b {
+        Block::Dxt1Rgb => false,
+        Block::Dxt1Rgba => false,
+        Block::Dxt3 => true,
+        Block::Dxt5 => true,
         Block::AtcRgb => false,
         Block::AtcExplicit => false,
         Block::AtcInterpolated => false,
@@ -194,6 +230,8 @@ fn alpha_bytes(b: Block) -> usize
     match b {
         Block::Dxt1Rgb => 0,
         Block::Dxt1Rgba => 0,
+        Block::Dxt3 => 8,
+        Block::Dxt5 => 8,
         Block::AtcRgb => 0,
         Block::AtcExplicit => 8,
         Block::AtcInterpolated => 8,
@@ -209,6 +247,9 @@ pub fn block_rgb(b: Block, s: &[u8], at: usize) -> [[u8; 3]; 16]
     if is_dxt1(b) {
         return dxt1_rgb_block(s, from);
     }
+    if has_four(b) {
+        return dxt_four_rgb_block(s, from);
+    }
     atc_rgb_block(s, from)
 }
 
@@ -220,6 +261,8 @@ pub fn block_alpha(b: Block, s: &[u8], at: usize) -> [u8; 16]
     match b {
         Block::Dxt1Rgb => opaque_block(),
         Block::Dxt1Rgba => dxt1_alpha_block(s, at),
+        Block::Dxt3 => explicit_alpha_block(s, at),
+        Block::Dxt5 => interpolated_alpha_block(s, at),
         Block::AtcRgb => opaque_block(),
         Block::AtcExplicit => explicit_alpha_block(s, at),
         Block::AtcInterpolated => interpolated_alpha_block(s, at),

@@ -4,11 +4,11 @@ use mathlib.Core.List.{List, []}
 use Prim.Native.Nat.{ℕ, _*_}
 use lib.Dec.{eqb, ltb}
 use lib.ListN.{length}
-use Rattle.consts.specs.Codes.{«GL_PALETTE4_RGB8_OES», «GL_PALETTE4_RGBA8_OES», «GL_PALETTE4_R5_G6_B5_OES», «GL_PALETTE4_RGBA4_OES», «GL_PALETTE4_RGB5_A1_OES», «GL_PALETTE8_RGB8_OES», «GL_PALETTE8_RGBA8_OES», «GL_PALETTE8_R5_G6_B5_OES», «GL_PALETTE8_RGBA4_OES», «GL_PALETTE8_RGB5_A1_OES», «GL_ATC_RGB_AMD», «GL_ATC_RGBA_EXPLICIT_ALPHA_AMD», «GL_ATC_RGBA_INTERPOLATED_ALPHA_AMD», «GL_COMPRESSED_RGB_S3TC_DXT1_EXT», «GL_COMPRESSED_RGBA_S3TC_DXT1_EXT»}
+use Rattle.consts.specs.Codes.{«GL_PALETTE4_RGB8_OES», «GL_PALETTE4_RGBA8_OES», «GL_PALETTE4_R5_G6_B5_OES», «GL_PALETTE4_RGBA4_OES», «GL_PALETTE4_RGB5_A1_OES», «GL_PALETTE8_RGB8_OES», «GL_PALETTE8_RGBA8_OES», «GL_PALETTE8_R5_G6_B5_OES», «GL_PALETTE8_RGBA4_OES», «GL_PALETTE8_RGB5_A1_OES», «GL_ATC_RGB_AMD», «GL_ATC_RGBA_EXPLICIT_ALPHA_AMD», «GL_ATC_RGBA_INTERPOLATED_ALPHA_AMD», «GL_COMPRESSED_RGB_S3TC_DXT1_EXT», «GL_COMPRESSED_RGBA_S3TC_DXT1_EXT», «GL_COMPRESSED_RGBA_S3TC_DXT3_EXT», «GL_COMPRESSED_RGBA_S3TC_DXT5_EXT»}
 use Rattle.answers.specs.Numbers.{refusalNumber}
 use Rattle.texels.specs.Image.{sideAbove}
 use Rattle.texels.specs.declared.Texel.the-variants.{Rgb, Rgba, Rgb565, Rgba4444, Rgba5551}
-use Rattle.blocks.specs.declared.Block.the-variants.{Dxt1Rgb, Dxt1Rgba, AtcRgb, AtcExplicit, AtcInterpolated}
+use Rattle.blocks.specs.declared.Block.the-variants.{Dxt1Rgb, Dxt1Rgba, Dxt3, Dxt5, AtcRgb, AtcExplicit, AtcInterpolated}
 use Rattle.blocks.specs.Blocks.{blockBytes, blockTexel}
 use Rattle.block_images.specs.Walk.{blocksOver, blockImage}
 use Rattle.palette_images.specs.Paletted.{palettedBytes, palettedImage}
@@ -31,14 +31,17 @@ paletteOf format =
     (cond (eqb format «GL_PALETTE8_RGBA4_OES») (Palette8 Rgba4444)
     (cond (eqb format «GL_PALETTE8_RGB5_A1_OES») (Palette8 Rgba5551) Unknown)))))))))
 
--- texture.rs, compressed_image_size: the codes of blocks, then those of palettes
+-- texture.rs, compressed_image_size: the codes of blocks, then those of palettes. DXT3 and DXT5: EXT_texture_compression_s3tc,
+-- New Tokens (2026-14)
 unfoldable pub compressedOf : ℕ → Compressed
 compressedOf format =
     cond (eqb format «GL_COMPRESSED_RGB_S3TC_DXT1_EXT») (Blocks Dxt1Rgb)
     (cond (eqb format «GL_COMPRESSED_RGBA_S3TC_DXT1_EXT») (Blocks Dxt1Rgba)
+    (cond (eqb format «GL_COMPRESSED_RGBA_S3TC_DXT3_EXT») (Blocks Dxt3)
+    (cond (eqb format «GL_COMPRESSED_RGBA_S3TC_DXT5_EXT») (Blocks Dxt5)
     (cond (eqb format «GL_ATC_RGB_AMD») (Blocks AtcRgb)
     (cond (eqb format «GL_ATC_RGBA_EXPLICIT_ALPHA_AMD») (Blocks AtcExplicit)
-    (cond (eqb format «GL_ATC_RGBA_INTERPOLATED_ALPHA_AMD») (Blocks AtcInterpolated) (paletteOf format)))))
+    (cond (eqb format «GL_ATC_RGBA_INTERPOLATED_ALPHA_AMD») (Blocks AtcInterpolated) (paletteOf format)))))))
 
 abbrev pub isUnknown : Compressed → Bool
 isUnknown (Blocks b) = false

@@ -56,6 +56,8 @@ pub fn compressed_of(format: u32) -> Compressed
     match format {
         GL_COMPRESSED_RGB_S3TC_DXT1_EXT => Compressed::Blocks(Block::Dxt1Rgb),
         GL_COMPRESSED_RGBA_S3TC_DXT1_EXT => Compressed::Blocks(Block::Dxt1Rgba),
+        GL_COMPRESSED_RGBA_S3TC_DXT3_EXT => Compressed::Blocks(Block::Dxt3),
+        GL_COMPRESSED_RGBA_S3TC_DXT5_EXT => Compressed::Blocks(Block::Dxt5),
         GL_ATC_RGB_AMD => Compressed::Blocks(Block::AtcRgb),
         GL_ATC_RGBA_EXPLICIT_ALPHA_AMD => Compressed::Blocks(Block::AtcExplicit),
         GL_ATC_RGBA_INTERPOLATED_ALPHA_AMD => Compressed::Blocks(Block::AtcInterpolated),

@@ -1,4 +1,4 @@
--- The codes of consts.rs that document 01 uses, under their names.
+-- The codes of consts.rs that document 01 uses, and those of document 02, under their names.
 use Prim.Native.Nat.{ℕ}
 
 -- Texel formats and types
@@ -127,6 +127,13 @@ abbrev pub «GL_COMPRESSED_RGB_S3TC_DXT1_EXT» : ℕ
 
 abbrev pub «GL_COMPRESSED_RGBA_S3TC_DXT1_EXT» : ℕ
 «GL_COMPRESSED_RGBA_S3TC_DXT1_EXT» = 0x83F1
+
+-- EXT_texture_compression_s3tc, New Tokens (2026-14): consts.rs has neither this code nor the next
+abbrev pub «GL_COMPRESSED_RGBA_S3TC_DXT3_EXT» : ℕ
+«GL_COMPRESSED_RGBA_S3TC_DXT3_EXT» = 0x83F2
+
+abbrev pub «GL_COMPRESSED_RGBA_S3TC_DXT5_EXT» : ℕ
+«GL_COMPRESSED_RGBA_S3TC_DXT5_EXT» = 0x83F3
 
 -- Comparisons
 abbrev pub «GL_NEVER» : ℕ

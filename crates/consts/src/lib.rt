@@ -1,4 +1,4 @@
-// The codes of consts.rs that document 01 uses, under their names.
+// The codes of consts.rs that document 01 uses, and those of document 02, under their names.
 
 // Texel formats and types
 pub const GL_UNSIGNED_BYTE: u32 = 0x1401;
@@ -85,6 +85,10 @@ pub const GL_ATC_RGBA_INTERPOLATED_ALPHA_AMD: u32 = 0x87EE;
 pub const GL_COMPRESSED_RGB_S3TC_DXT1_EXT: u32 = 0x83F0;
 
 pub const GL_COMPRESSED_RGBA_S3TC_DXT1_EXT: u32 = 0x83F1;
+
+pub const GL_COMPRESSED_RGBA_S3TC_DXT3_EXT: u32 = 0x83F2;
+
+pub const GL_COMPRESSED_RGBA_S3TC_DXT5_EXT: u32 = 0x83F3;
 
 // Comparisons
 pub const GL_NEVER: u32 = 0x0200;

@@ -27,13 +27,21 @@ returns-5 c = rw (c .match .keys5)
 
 returns-6 : tie.Need-returns-6
 unfolding compressedOf
-returns-6 c =
+returns-6 c = rw (c .match .keys6)
+
+returns-7 : tie.Need-returns-7
+unfolding compressedOf
+returns-7 c = rw (c .match .keys7)
+
+returns-8 : tie.Need-returns-8
+unfolding compressedOf
+returns-8 c =
     let m = c .before .match .rest in simp
-    (ne-eqb _ _ (m .0 .0 .0 .0 .1), ne-eqb _ _ (m .0 .0 .0 .1), ne-eqb _ _ (m .0 .0 .1), ne-eqb _ _ (m .0 .1), ne-eqb _ _ (m .1))
+    (ne-eqb _ _ (m .0 .0 .0 .0 .0 .0 .1), ne-eqb _ _ (m .0 .0 .0 .0 .0 .1), ne-eqb _ _ (m .0 .0 .0 .0 .1), ne-eqb _ _ (m .0 .0 .0 .1), ne-eqb _ _ (m .0 .0 .1), ne-eqb _ _ (m .0 .1), ne-eqb _ _ (m .1))
     (c .palette-of .ensures)
 
 pub compressed-of-spec : {M : Type 1} → statement M
 compressed-of-spec =
     tie.close
     (tie.spec
-    (λ c κs. search needs) returns returns-2 returns-3 returns-4 returns-5 returns-6)
+    (λ c κs. search needs) returns returns-2 returns-3 returns-4 returns-5 returns-6 returns-7 returns-8)
