@@ -100,6 +100,7 @@ pictures: rust-build
 	@$(PANELS) --alone 0 --scale 4 --png docs/pictures/pump.png > /dev/null
 	@$(PANELS) --alone 1 --scale 4 --png docs/pictures/kiln.png > /dev/null
 	@$(PANELS) --alone 15 --scale 4 --png docs/pictures/tank.png > /dev/null
+	@$(PANELS) --alone 24 --scale 4 --png docs/pictures/flare.png > /dev/null
 
 rust-check: rust-build
 	@cd rust && $(CARGO) test --release --offline --locked --quiet

@@ -40,7 +40,9 @@ size_t tf_bytes_per_texel(uint32_t format, uint32_t type);
 uint32_t tf_decode_to_rgba(const uint8_t *data, size_t data_len, uint32_t width, uint32_t height, uint32_t format,
                            uint32_t type, uint8_t *out, size_t out_len);
 
-/* Decodes a compressed or paletted image into RGBA. Answers 0, 9, 14, 11 or 15; a zero side is done, or 15. */
+/* Decodes a compressed or paletted image into RGBA. Answers 0, 9, 14, 11 or 15; a zero side is done, or 15. Formats: 0x83F0 and 0x83F1 (DXT1
+ * without and with alpha), 0x83F2 (DXT3), 0x83F3 (DXT5), 0x8C92, 0x8C93 and 0x87EE (ATC without, with explicit, with interpolated alpha),
+ * 0x8B90 to 0x8B94 and 0x8B95 to 0x8B99 (palettes of 16 and of 256). */
 uint32_t tf_decode_compressed_to_rgba(const uint8_t *data, size_t data_len, uint32_t width, uint32_t height,
                                       uint32_t format, uint8_t *out, size_t out_len);
 

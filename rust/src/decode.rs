@@ -42,6 +42,10 @@ impl CompressedFormat {
     pub const RGB_S3TC_DXT1: CompressedFormat = CompressedFormat(0x83F0);
     /// DXT1 with alpha: 0 for the fourth colour of a block whose first endpoint is not above its second, else 255.
     pub const RGBA_S3TC_DXT1: CompressedFormat = CompressedFormat(0x83F1);
+    /// DXT3: four bits of alpha a texel, and four colours whatever the endpoints' order.
+    pub const RGBA_S3TC_DXT3: CompressedFormat = CompressedFormat(0x83F2);
+    /// DXT5: interpolated alpha, and four colours whatever the endpoints' order.
+    pub const RGBA_S3TC_DXT5: CompressedFormat = CompressedFormat(0x83F3);
     /// ATC without alpha.
     pub const ATC_RGB: CompressedFormat = CompressedFormat(0x8C92);
     /// ATC with four bits of alpha a texel.
@@ -125,6 +129,14 @@ pub fn decode_to_rgba_into(data: &[u8], width: u32, height: u32, format: Format,
 /// assert_eq!(image, [0, 0, 0, 255].repeat(16));
 /// let image = decode_compressed_to_rgba(&block, 4, 4, CompressedFormat::RGBA_S3TC_DXT1).unwrap();
 /// assert_eq!(image, [0; 64]);
+///
+/// // The same eight bytes after eight of alphas: DXT3 and DXT5 always have four colours.
+/// let dxt3 = [[0x77; 8], block].concat();
+/// let image = decode_compressed_to_rgba(&dxt3, 4, 4, CompressedFormat::RGBA_S3TC_DXT3).unwrap();
+/// assert_eq!(image, [170, 0, 85, 119].repeat(16));
+/// let dxt5 = [[0xFF, 0x00, 0x92, 0x24, 0x49, 0x92, 0x24, 0x49], block].concat();
+/// let image = decode_compressed_to_rgba(&dxt5, 4, 4, CompressedFormat::RGBA_S3TC_DXT5).unwrap();
+/// assert_eq!(image, [170, 0, 85, 218].repeat(16));
 /// ```
 pub fn decode_compressed_to_rgba(data: &[u8], width: u32, height: u32, format: CompressedFormat) -> Result<Vec<u8>, Refusal> {
     let mut out = output(width, height);
@@ -152,6 +164,7 @@ pub fn decode_compressed_to_rgba_into(
 /// use tilefringe::{compressed_image_size, CompressedFormat, Refusal};
 /// assert_eq!(compressed_image_size(CompressedFormat::PALETTE4_RGB8, 3, 2), Ok(52));
 /// assert_eq!(compressed_image_size(CompressedFormat::RGB_S3TC_DXT1, 5, 4), Ok(16));
+/// assert_eq!(compressed_image_size(CompressedFormat::RGBA_S3TC_DXT5, 5, 4), Ok(32));
 /// assert_eq!(compressed_image_size(CompressedFormat(0), 5, 4), Err(Refusal::Format));
 /// ```
 pub fn compressed_image_size(format: CompressedFormat, width: u32, height: u32) -> Result<usize, Refusal> {

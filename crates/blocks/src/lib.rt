@@ -1,13 +1,10 @@
-// Blocks of four by four texels: DXT and ATC colours, and the alphas of each format (texture.rs; DXT3 and DXT5 by 2026-14).
+// Blocks of four by four texels: what each format's bytes are, its colours and its alphas (texture.rs; DXT3 and DXT5 by 2026-14).
 use alpha_blocks::*;
-use texels::*;
+use colour_blocks::*;
 ghost use mathlib.Core.Path.{_≡_};
-ghost use Prim.Native.Nat.{_+_, _≤_, _<_};
+ghost use Prim.Native.Nat.{_+_, _≤_};
 ghost use lib.ListN.{length};
-ghost use Rattle.texels.specs.Texels.{half};
-ghost use Rattle.lists.specs.Lists.{tab};
-ghost use Rattle.alpha_blocks.specs.AlphaBlocks.{selector, word};
-ghost use Rattle.blocks.specs.Blocks.{mixed3, rgb565, rgb555, fourColours, dxt1Palette, lessQuarter, lessQuarter3, atcPalette, chosen, dxt1, dxtFour, atc, dxt1AlphaOf, dxt1Alpha, opaque, blockBytes, isDxt1, hasFour, alphaBytes, blockRgb, blockAlpha};
+ghost use Rattle.blocks.specs.Blocks.{opaque, blockBytes, isDxt, alwaysFour, alphaBytes, blockRgb, alphasOf, blockAlpha};
 
 // The formats whose images are made of blocks.
 pub enum Block {
@@ -20,158 +17,12 @@ pub enum Block {
     AtcInterpolated,
 }
 
-fn mix3(k: u32, n: u32, a: [u8; 3], b: [u8; 3]) -> [u8; 3]
-    requires { ⌜ (0 < n) × (n ≤ 8) × (k ≤ n) ⌝ }
-    ensures { λ r. ⌜ r ≡ mixed3 k n a b ⌝ }
-{
-    [
-        mix(k, n, a[0], b[0]),
-        mix(k, n, a[1], b[1]),
-        mix(k, n, a[2], b[2]),
-    ]
-}
-
-fn colour_565(c: u32) -> [u8; 3]
-    ensures { λ r. ⌜ r ≡ rgb565 c ⌝ }
-{
-    [expand5(c / 2048), expand6(c / 32), expand5(c)]
-}
-
-fn colour_555(c: u32) -> [u8; 3]
-    ensures { λ r. ⌜ r ≡ rgb555 c ⌝ }
-{
-    [expand5(c / 1024), expand5(c / 32), expand5(c)]
-}
-
-fn four_colours(c0: u32, c1: u32) -> [[u8; 3]; 4]
-    ensures { λ r. ⌜ r ≡ fourColours c0 c1 ⌝ }
-{
-    let e0 = colour_565(c0);
-    let e1 = colour_565(c1);
-    [e0, e1, mix3(1, 3, e0, e1), mix3(2, 3, e0, e1)]
-}
-
-fn dxt1_palette(c0: u32, c1: u32) -> [[u8; 3]; 4]
-    ensures { λ r. ⌜ r ≡ dxt1Palette c0 c1 ⌝ }
-{
-    if c0 > c1 {
-        return four_colours(c0, c1);
-    }
-    let e0 = colour_565(c0);
-    let e1 = colour_565(c1);
-    [e0, e1, mix3(1, 2, e0, e1), [0, 0, 0]]
-}
-
-// A channel less a quarter of another, at least 0.
-fn lowered(a: u8, b: u8) -> u8
-    ensures { λ r. ⌜ r ≡ lessQuarter a b ⌝ }
-{
-    let q = b / 4;
-    if a < q {
-        return 0;
-    }
-    a - q
-}
-
-fn lowered3(a: [u8; 3], b: [u8; 3]) -> [u8; 3]
-    ensures { λ r. ⌜ r ≡ lessQuarter3 a b ⌝ }
-{
-    [
-        lowered(a[0], b[0]),
-        lowered(a[1], b[1]),
-        lowered(a[2], b[2]),
-    ]
-}
-
-fn atc_palette(c0: u32, c1: u32) -> [[u8; 3]; 4]
-    ensures { λ r. ⌜ r ≡ atcPalette c0 c1 ⌝ }
-{
-    let e0 = colour_555(c0);
-    let e1 = colour_565(c1);
-    if c0 < 32768 {
-        [e0, mix3(3, 8, e0, e1), mix3(5, 8, e0, e1), e1]
-    } else {
-        [[0, 0, 0], lowered3(e0, e1), e0, e1]
-    }
-}
-
-fn four_bytes(s: &[u8], at: usize) -> u32
-    requires { ⌜ at + 4 ≤ length (now s) ⌝ }
-    ensures { λ r. ⌜ r ≡ word (now (s .entry)) at ⌝ }
-{
-    half(s, at) + half(s, at + 2) * 65536
-}
-
-// The i-th of sixteen selectors of two bits.
-fn selector2(bits: u32, i: usize) -> usize
-    requires { ⌜ i < 16 ⌝ }
-    ensures { λ r. ⌜ (r ≡ selector 2 bits i) × (r < 4) ⌝ }
-{
-    ((bits >> (2 * i)) % 4) as usize
-}
-
-fn chosen(palette: [[u8; 3]; 4], bits: u32) -> [[u8; 3]; 16]
-    ensures { λ r. ⌜ r ≡ chosen palette bits ⌝ }
-{
-    let mut out = [[0u8; 3]; 16];
-    for i in 0..16 {
-        let sel = selector2(bits, i);
-        out[i] = palette[sel];
-    }
-    out
-}
-
-pub fn dxt1_rgb_block(s: &[u8], at: usize) -> [[u8; 3]; 16]
-    requires { ⌜ at + 8 ≤ length (now s) ⌝ }
-    ensures { λ r. ⌜ r ≡ dxt1 (now (s .entry)) at ⌝ }
-{
-    let palette = dxt1_palette(half(s, at), half(s, at + 2));
-    chosen(palette, four_bytes(s, at + 4))
-}
-
-fn dxt_four_rgb_block(s: &[u8], at: usize) -> [[u8; 3]; 16]
-    requires { ⌜ at + 8 ≤ length (now s) ⌝ }
-    ensures { λ r. ⌜ r ≡ dxtFour (now (s .entry)) at ⌝ }
-{
-    let palette = four_colours(half(s, at), half(s, at + 2));
-    chosen(palette, four_bytes(s, at + 4))
-}
-
-pub fn atc_rgb_block(s: &[u8], at: usize) -> [[u8; 3]; 16]
-    requires { ⌜ at + 8 ≤ length (now s) ⌝ }
-    ensures { λ r. ⌜ r ≡ atc (now (s .entry)) at ⌝ }
-{
-    let palette = atc_palette(half(s, at), half(s, at + 2));
-    chosen(palette, four_bytes(s, at + 4))
-}
-
-fn dxt1_alpha(c0: u32, c1: u32, sel: usize) -> u8
-    ensures { λ r. ⌜ r ≡ dxt1AlphaOf c0 c1 sel ⌝ }
-{
-    if c1 < c0 {
-        return 255;
-    }
-    if sel == 3 {
-        return 0;
-    }
-    255
-}
-
-fn dxt1_alphas(c0: u32, c1: u32, bits: u32) -> [u8; 16]
-    ensures { λ r. ⌜ r ≡ tab 16 (λ i. dxt1AlphaOf c0 c1 (selector 2 bits i)) ⌝ }
-{
-    let mut out = [0u8; 16];
-    for i in 0..16 {
-        out[i] = dxt1_alpha(c0, c1, selector2(bits, i));
-    }
-    out
-}
-
-pub fn dxt1_alpha_block(s: &[u8], at: usize) -> [u8; 16]
-    requires { ⌜ at + 8 ≤ length (now s) ⌝ }
-    ensures { λ r. ⌜ r ≡ dxt1Alpha (now (s .entry)) at ⌝ }
-{
-    dxt1_alphas(half(s, at), half(s, at + 2), four_bytes(s, at + 4))
+// How the alphas of a block are read: 255 throughout, by the colours' selectors, four bits each, or by selectors of their own.
+pub enum Alphas {
+    Opaque,
+    Selected,
+    Explicit,
+    Interpolated,
 }
 
 fn opaque_block() -> [u8; 16]
@@ -194,14 +45,14 @@ pub fn block_bytes(b: Block) -> usize
     }
 }
 
-fn is_dxt1(b: Block) -> bool
-    ensures { λ r. ⌜ r ≡ isDxt1 b ⌝ }
+fn is_dxt(b: Block) -> bool
+    ensures { λ r. ⌜ r ≡ isDxt b ⌝ }
 {
     match b {
         Block::Dxt1Rgb => true,
         Block::Dxt1Rgba => true,
-        Block::Dxt3 => false,
-        Block::Dxt5 => false,
+        Block::Dxt3 => true,
+        Block::Dxt5 => true,
         Block::AtcRgb => false,
         Block::AtcExplicit => false,
         Block::AtcInterpolated => false,
@@ -209,8 +60,8 @@ fn is_dxt1(b: Block) -> bool
 }
 
 // Whether a block has four colours, whatever the order of its endpoints.
-fn has_four(b: Block) -> bool
-    ensures { λ r. ⌜ r ≡ hasFour b ⌝ }
+fn always_four(b: Block) -> bool
+    ensures { λ r. ⌜ r ≡ alwaysFour b ⌝ }
 {
     match b {
         Block::Dxt1Rgb => false,
@@ -244,27 +95,37 @@ pub fn block_rgb(b: Block, s: &[u8], at: usize) -> [[u8; 3]; 16]
     ensures { λ r. ⌜ r ≡ blockRgb b (now (s .entry)) at ⌝ }
 {
     let from = at + alpha_bytes(b);
-    if is_dxt1(b) {
-        return dxt1_rgb_block(s, from);
-    }
-    if has_four(b) {
-        return dxt_four_rgb_block(s, from);
+    if is_dxt(b) {
+        return dxt_rgb_block(always_four(b), s, from);
     }
     atc_rgb_block(s, from)
 }
 
-// The alphas of a block, by its format.
+// How a format's alphas are read.
+fn alphas_of(b: Block) -> Alphas
+    ensures { λ r. ⌜ r ≡ alphasOf b ⌝ }
+{
+    match b {
+        Block::Dxt1Rgb => Alphas::Opaque,
+        Block::Dxt1Rgba => Alphas::Selected,
+        Block::Dxt3 => Alphas::Explicit,
+        Block::Dxt5 => Alphas::Interpolated,
+        Block::AtcRgb => Alphas::Opaque,
+        Block::AtcExplicit => Alphas::Explicit,
+        Block::AtcInterpolated => Alphas::Interpolated,
+    }
+}
+
+// The alphas of a block. Each of their readers too is called in one place.
 pub fn block_alpha(b: Block, s: &[u8], at: usize) -> [u8; 16]
     requires { ⌜ at + blockBytes b ≤ length (now s) ⌝ }
     ensures { λ r. ⌜ r ≡ blockAlpha b (now (s .entry)) at ⌝ }
 {
-    match b {
-        Block::Dxt1Rgb => opaque_block(),
-        Block::Dxt1Rgba => dxt1_alpha_block(s, at),
-        Block::Dxt3 => explicit_alpha_block(s, at),
-        Block::Dxt5 => interpolated_alpha_block(s, at),
-        Block::AtcRgb => opaque_block(),
-        Block::AtcExplicit => explicit_alpha_block(s, at),
-        Block::AtcInterpolated => interpolated_alpha_block(s, at),
+    let alphas = alphas_of(b);
+    match alphas {
+        Alphas::Opaque => opaque_block(),
+        Alphas::Selected => dxt1_alpha_block(s, at),
+        Alphas::Explicit => explicit_alpha_block(s, at),
+        Alphas::Interpolated => interpolated_alpha_block(s, at),
     }
 }

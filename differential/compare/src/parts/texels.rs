@@ -2,6 +2,7 @@
 use crate::{same, shrink, Ctx, Part, Record, Rng, Tally};
 use oracle::texture as rust;
 use port::texels as port;
+use std::cmp::Ordering;
 
 pub const PART: Part = Part {
     name: "texels",
@@ -14,11 +15,13 @@ pub(super) const FORMATS: [u32; 5] = [0x1906, 0x1907, 0x1908, 0x1909, 0x190A];
 pub(super) const PACKED: [u32; 3] = [0x8363, 0x8033, 0x8034];
 const BYTE: u32 = 0x1401;
 const DXT1: [u32; 2] = [0x83F0, 0x83F1];
+/// DXT3 and DXT5 (2026-14), which the Rust refuses.
+const NEW: [u32; 2] = [0x83F2, 0x83F3];
 const ATC: [u32; 3] = [0x8C92, 0x8C93, 0x87EE];
-pub(super) const BLOCKS: [u32; 5] = [0x83F0, 0x83F1, 0x8C92, 0x8C93, 0x87EE];
+pub(super) const BLOCKS: [u32; 7] = [0x83F0, 0x83F1, 0x83F2, 0x83F3, 0x8C92, 0x8C93, 0x87EE];
 pub(super) const PALETTES: [u32; 10] = [0x8B90, 0x8B91, 0x8B92, 0x8B93, 0x8B94, 0x8B95, 0x8B96, 0x8B97, 0x8B98, 0x8B99];
 /// Codes that are none of the above, or not in that place.
-const STRANGE: [u32; 12] = [0, 1, 0x1400, 0x1905, 0x190B, 0x83F2, 0x83F3, 0x8B8F, 0x8B9A, 0x8C91, 0xDEAD, u32::MAX];
+const STRANGE: [u32; 12] = [0, 1, 0x1400, 0x1905, 0x190B, 0x83EF, 0x83F4, 0x8B8F, 0x8B9A, 0x8C91, 0xDEAD, u32::MAX];
 
 #[derive(Clone, Copy, Debug, PartialEq, Eq)]
 enum Op {
@@ -63,7 +66,53 @@ fn made_opaque(mut image: Vec<u8>) -> Vec<u8> {
     image
 }
 
-/// Document 01's answer, with the Rust's bytes; those of 83F0 made opaque. Where the Rust itself refuses, it must be 14 or 11.
+/// The code under which the Rust has a format's size and alphas: for DXT3 and DXT5 that of ATC's with the same alphas.
+fn beside(format: u32) -> u32 {
+    NEW.iter().position(|&new| new == format).map_or(format, |i| ATC[i + 1])
+}
+
+fn size_of(format: u32, width: u32, height: u32) -> Option<usize> {
+    rust::compressed_image_size(beside(format), width, height)
+}
+
+/// The order of a colour block's endpoints.
+fn endpoints(block: [u8; 8]) -> Ordering {
+    u16::from_le_bytes([block[0], block[1]]).cmp(&u16::from_le_bytes([block[2], block[3]]))
+}
+
+/// 2026-14: the DXT1 block with four colours in which the Rust has the texels of a colour block that always has four.
+fn four_colours(block: [u8; 8]) -> [u8; 8] {
+    let [a, b, c, d, e, f, g, h] = block;
+    match endpoints(block) {
+        Ordering::Greater => block,
+        // The endpoints exchanged, so that selectors 0, 1, 2 and 3 become 1, 0, 3 and 2.
+        Ordering::Less => [c, d, a, b, e ^ 0x55, f ^ 0x55, g ^ 0x55, h ^ 0x55],
+        // All four colours are the endpoints': each texel has the first.
+        Ordering::Equal => [a, b, c, d, 0, 0, 0, 0],
+    }
+}
+
+/// The colour blocks of an image of DXT3 or DXT5.
+fn colour_blocks(data: &[u8]) -> impl Iterator<Item = [u8; 8]> + '_ {
+    data.chunks_exact(16).map(|block| block[8..].try_into().expect("eight bytes"))
+}
+
+/// The image that is wanted, by the Rust's decode: 83F0's with each alpha 255; of DXT3 and DXT5 the colours as DXT1, the alphas as ATC.
+fn image_of(data: &[u8], width: u32, height: u32, format: u32) -> Option<Vec<u8>> {
+    let image = rust::decode_compressed_to_rgba(data, width, height, beside(format))?;
+    if format == DXT1[0] {
+        return Some(made_opaque(image));
+    }
+    if !NEW.contains(&format) {
+        return Some(image);
+    }
+    let dxt1: Vec<u8> = colour_blocks(data).flat_map(four_colours).collect();
+    let colours = rust::decode_compressed_to_rgba(&dxt1, width, height, DXT1[1]).expect("as many blocks");
+    let texels = colours.chunks(4).zip(image.chunks(4));
+    Some(texels.flat_map(|(colour, alpha)| [colour[0], colour[1], colour[2], alpha[3]]).collect())
+}
+
+/// Document 01's answer, with the Rust's bytes as `image_of` has them. Where there are none, it must be 14 or 11.
 fn wanted(call: &Call) -> Left {
     let Call { op, width, height, format, ty, ref data, out } = *call;
     let large = width > 1024 || height > 1024;
@@ -87,19 +136,18 @@ fn wanted(call: &Call) -> Left {
         }
         Op::Compressed if large => refused(9),
         Op::Compressed => {
-            let size = rust::compressed_image_size(format, width, height);
-            let image = rust::decode_compressed_to_rgba(data, width, height, format);
+            let size = size_of(format, width, height);
+            let image = image_of(data, width, height, format);
             assert_eq!(image.is_none(), !empty && size.is_none_or(|n| data.len() < n));
             match image {
                 None if size.is_none() => refused(14),
                 None => refused(11),
                 Some(_) if out != needed => refused(15),
-                Some(image) if format == DXT1[0] => done(made_opaque(image)),
                 Some(image) => done(image),
             }
         }
         Op::Size if large => refused(9),
-        Op::Size => match rust::compressed_image_size(format, width, height) {
+        Op::Size => match size_of(format, width, height) {
             None => refused(14),
             Some(size) => Left { number: 0, size, out: before(out) },
         },
@@ -125,7 +173,12 @@ fn check(call: &Call) -> (u32, Option<String>) {
     } else if rust.size != port.size {
         Some(format!("size {} from the Rust, {} from the port", rust.size, port.size))
     } else {
-        same::bytes(if call.format == DXT1[0] { "output, each alpha of the Rust's made 255" } else { "output" }, &rust.out, &port.out)
+        let what = match call.format {
+            0x83F0 => "output, each alpha of the Rust's made 255",
+            0x83F2 | 0x83F3 => "output, colours as the Rust's DXT1 of four colours, alphas as its ATC",
+            _ => "output",
+        };
+        same::bytes(what, &rust.out, &port.out)
     };
     (rust.number, words)
 }
@@ -166,6 +219,24 @@ fn count_black(tally: &mut Tally, format: u32, rust: &[u8], port: &[u8]) {
     tally.add(name, black.count() as u64);
 }
 
+/// Counts colour blocks of DXT3 and DXT5 by the order of their endpoints.
+fn count_endpoints(tally: &mut Tally, format: u32, blocks: impl Iterator<Item = [u8; 8]>) {
+    for block in blocks {
+        let order = match endpoints(block) {
+            Ordering::Less => "rising",
+            Ordering::Equal => "equal",
+            Ordering::Greater => "falling",
+        };
+        tally.count(&format!("blocks of {format:04X} with {order} endpoints"));
+    }
+}
+
+/// Counts the texels of DXT3 and DXT5 whose colour is not the one that the Rust's DXT1 has in the same bytes.
+fn count_unlike_dxt1(tally: &mut Tally, format: u32, dxt1: &[u8], port: &[u8]) {
+    let unlike = dxt1.chunks(4).zip(port.chunks(4)).filter(|(dxt1, port)| dxt1[..3] != port[..3]);
+    tally.add(&format!("texels of {format:04X} whose colour is not DXT1's"), unlike.count() as u64);
+}
+
 fn try_call(tally: &mut Tally, call: &Call) {
     let number = tally.case(call, check, smaller);
     tally.count(&format!("{} answered {number}", name(call.op)));
@@ -178,6 +249,15 @@ fn try_call(tally: &mut Tally, call: &Call) {
             if DXT1.contains(&call.format) {
                 let rust = rust::decode_compressed_to_rgba(&call.data, w, h, call.format).expect("it was answered with 0");
                 count_black(tally, call.format, &rust, &answered(call).out);
+            }
+            if NEW.contains(&call.format) {
+                assert_eq!(rust::decode_compressed_to_rgba(&call.data, w, h, call.format), None);
+                tally.count(&format!("images of {:04X} that the Rust refuses", call.format));
+                let blocks = size_of(call.format, w, h).expect("it was answered with 0") / 16;
+                count_endpoints(tally, call.format, colour_blocks(&call.data).take(blocks));
+                let same_bytes: Vec<u8> = colour_blocks(&call.data).flatten().collect();
+                let dxt1 = rust::decode_compressed_to_rgba(&same_bytes, w, h, DXT1[1]).expect("as many blocks");
+                count_unlike_dxt1(tally, call.format, &dxt1, &answered(call).out);
             }
             if w % 4 != 0 || h % 4 != 0 {
                 tally.count("compressed images with overhang or odd rows");
@@ -238,7 +318,7 @@ fn call(rng: &mut Rng, most: i64) -> Call {
     let texels = if small { width as usize * height as usize } else { rng.below(16) as usize };
     let needed = match op {
         Op::Plain => texels * rust::bytes_per_texel(format, ty).unwrap_or(2),
-        _ if small => rust::compressed_image_size(format, width, height).unwrap_or(16),
+        _ if small => size_of(format, width, height).unwrap_or(16),
         _ => rng.below(64) as usize,
     };
     let n = if op == Op::Size { 0 } else { about(rng, needed) };
@@ -300,15 +380,20 @@ fn joined(rgb: [[u8; 3]; 16], alpha: [u8; 16]) -> [[u8; 4]; 16] {
 fn try_block(tally: &mut Tally, block: [u8; 8], alphas: [u8; 8]) {
     let difference = |&(block, alphas): &([u8; 8], [u8; 8])| {
         let (rgb, alpha) = rust::probe::dxt1_rgb_block(&block);
+        let (four, none) = rust::probe::dxt1_rgb_block(&four_colours(block));
+        assert_eq!(none, [255; 16], "the block has a fourth colour that is black");
         let atc = rust::probe::atc_rgb_block(&block);
         let both = [alphas, block].concat();
         let explicit: [u8; 16] = std::array::from_fn(|i| rust::probe::expand4(u16::from(alphas[i / 2] >> (4 * (i % 2)))));
+        let interpolated = rust::probe::interpolated_alpha_block(&alphas);
         let wanted = [
             (DXT1[0], texels_of(DXT1[0], &block), joined(rgb, [255; 16])),
             (DXT1[1], texels_of(DXT1[1], &block), joined(rgb, alpha)),
+            (NEW[0], texels_of(NEW[0], &both), joined(four, explicit)),
+            (NEW[1], texels_of(NEW[1], &both), joined(four, interpolated)),
             (ATC[0], texels_of(ATC[0], &block), joined(atc, [255; 16])),
             (ATC[1], texels_of(ATC[1], &both), joined(atc, explicit)),
-            (ATC[2], texels_of(ATC[2], &both), joined(atc, rust::probe::interpolated_alpha_block(&alphas))),
+            (ATC[2], texels_of(ATC[2], &both), joined(atc, interpolated)),
         ];
         let wrong = wanted.into_iter().find(|(_, port, rust)| port != rust);
         ((), wrong.map(|(format, port, rust)| format!("a block of {format:04X}: {rust:?} wanted, {port:?} from the port")))
@@ -317,6 +402,11 @@ fn try_block(tally: &mut Tally, block: [u8; 8], alphas: [u8; 8]) {
     let (rgb, alpha) = rust::probe::dxt1_rgb_block(&block);
     for format in DXT1 {
         count_black(tally, format, joined(rgb, alpha).as_flattened(), texels_of(format, &block).as_flattened());
+    }
+    for format in NEW {
+        count_endpoints(tally, format, [block].into_iter());
+        let port = texels_of(format, &[alphas, block].concat());
+        count_unlike_dxt1(tally, format, joined(rgb, alpha).as_flattened(), port.as_flattened());
     }
 }
 
@@ -390,6 +480,18 @@ fn blocks(ctx: &mut Ctx) {
         ctx.tally.count("black blocks worked");
     }
     ctx.floor("black blocks worked", 4);
+    // The worked cases of 2026-14, each under both codes.
+    for (alphas, block) in [
+        ([0x77; 8], [0x1F, 0x00, 0x00, 0xF8, 0xFF, 0xFF, 0xFF, 0xFF]),
+        ([0x10, 0x32, 0x54, 0x76, 0x98, 0xBA, 0xDC, 0xFE], [0x1F, 0x00, 0x00, 0xF8, 0xFF, 0xFF, 0xFF, 0xFF]),
+        ([0xF0, 0x0F, 0, 0, 0, 0, 0, 0], [0x00, 0xF8, 0x1F, 0x00, 0xE4, 0xE4, 0xE4, 0xE4]),
+        ([0xFF, 0x00, 0x92, 0x24, 0x49, 0x92, 0x24, 0x49], [0x1F, 0x00, 0x00, 0xF8, 0xAA, 0xAA, 0xAA, 0xAA]),
+        ([0xFF, 0x00, 0, 0, 0, 0, 0, 0], [0x00, 0xF8, 0x00, 0xF8, 0xFF, 0xFF, 0xFF, 0xFF]),
+    ] {
+        try_block(&mut ctx.tally, block, alphas);
+        ctx.tally.count("DXT3 and DXT5 blocks worked");
+    }
+    ctx.floor("DXT3 and DXT5 blocks worked", 5);
     for name in ["endpoints rising", "endpoints falling", "ATC mode 0", "ATC mode 1"] {
         ctx.floor(name, 200);
     }
@@ -412,7 +514,7 @@ fn every_small_size(ctx: &mut Ctx) {
                     continue;
                 }
                 let mut rng = ctx.rng(&format!("{format:x}/{width}/{height}"));
-                let n = rust::compressed_image_size(format, width, height).unwrap_or(9);
+                let n = size_of(format, width, height).unwrap_or(9);
                 for n in [n, n + 1, n.saturating_sub(1)] {
                     let data = rng.bytes(n);
                     try_call(&mut ctx.tally, &Call { op: Op::Compressed, width, height, format, ty: 0, data, out: (width * height * 4) as usize });
@@ -463,6 +565,13 @@ fn run(ctx: &mut Ctx) {
     }
     for name in [OPAQUE_BLACK, TRANSPARENT_BLACK] {
         ctx.floor(name, 500_000);
+    }
+    for format in NEW {
+        ctx.floor(&format!("images of {format:04X} that the Rust refuses"), 1000);
+        for order in ["rising", "equal", "falling"] {
+            ctx.floor(&format!("blocks of {format:04X} with {order} endpoints"), 50_000);
+        }
+        ctx.floor(&format!("texels of {format:04X} whose colour is not DXT1's"), 500_000);
     }
     ctx.floor("images with a zero side", 1000);
     ctx.floor("compressed images with overhang or odd rows", 1000);

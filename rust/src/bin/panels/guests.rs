@@ -32,6 +32,7 @@ enum Kind {
     Solids,
     Board,
     Picture,
+    Flare,
 }
 
 const KINDS: [Kind; GUESTS] = {
@@ -40,7 +41,7 @@ const KINDS: [Kind; GUESTS] = {
         Pump, Kiln, Lettering, Gauges, Overlay, Refused, Tanks, Trend, //
         Solids, Board, Pump, Kiln, Lettering, Gauges, Overlay, Picture, //
         Trend, Solids, Board, Pump, Kiln, Lettering, Gauges, Overlay, //
-        Tanks, Trend, Solids, Board, Pump, Kiln, Lettering, Gauges, //
+        Flare, Trend, Solids, Board, Pump, Kiln, Lettering, Gauges, //
         Overlay, Tanks, Trend, Solids, Board, Gauges, Kiln, Pump,
     ]
 };
@@ -61,6 +62,7 @@ pub fn calls(guest: usize, overlap: bool) -> Vec<Call> {
         Kind::Solids => solids(&mut pen, random),
         Kind::Board => board(&mut pen, random),
         Kind::Picture => picture(&mut pen, random),
+        Kind::Flare => flare(&mut pen, random),
     }
     pen.calls
 }
@@ -444,7 +446,7 @@ fn board(pen: &mut Pen, random: &mut Random) {
     pen.text(30, 83, 1, INK, "BUS OK");
 }
 
-/// How far from each other the tank is shown twice.
+/// How far from each other a picture is shown twice.
 const APART: i32 = 48;
 
 /// One DXT1 picture under both codes, drawn where its alpha is above a half: 83F0 has no holes.
@@ -459,6 +461,23 @@ fn picture(pen: &mut Pen, random: &mut Random) {
         pen.filters(0, MinFilter::Nearest, Filter::Nearest);
         pen.textured([x, 15, width as i32, height as i32], [0.0, 0.0, 1.0, 1.0], [255; 4], pen.cut_out());
         pen.text(x + 8, 83, 1, [30, 18, 4, 255], &format!("{:04X}", format.0));
+    }
+}
+
+/// One picture as DXT3 and as DXT5, blended over an evening sky: the same colours, with sixteen alphas and with finer ones.
+fn flare(pen: &mut Pen, random: &mut Random) {
+    open(pen, "FLARE");
+    let [width, height] = art::FLARE;
+    let lean = random.below(5) as i32 - 2;
+    pen.shaded(1, 12, 98, 83, [52, 84, 122, 255], [12, 16, 36, 255]);
+    let pictures = [(CompressedFormat::RGBA_S3TC_DXT3, art::flare_dxt3(lean)), (CompressedFormat::RGBA_S3TC_DXT5, art::flare_dxt5(lean))];
+    for (x, (format, data)) in [6, 6 + APART].into_iter().zip(pictures) {
+        pen.tile(x + 17, 72, 6, 9, [84, 92, 100, 255]);
+        let image = decode_compressed_to_rgba(&data, width, height, format).expect("whole blocks");
+        pen.define(0, 0, width, height, image);
+        pen.filters(0, MinFilter::Nearest, Filter::Nearest);
+        pen.textured([x, 13, width as i32, height as i32], [0.0, 0.0, 1.0, 1.0], [255; 4], pen.blended());
+        pen.text(x + 8, 84, 1, INK, &format!("{:04X}", format.0));
     }
 }
 
@@ -493,6 +512,30 @@ mod tests {
             }
         }
         assert!(holes > 300);
+    }
+
+    #[test]
+    fn the_flare_has_the_same_colours_under_83f2_and_83f3() {
+        let [width, height] = art::FLARE;
+        for lean in -2..=2 {
+            let (dxt3, dxt5) = (art::flare_dxt3(lean), art::flare_dxt5(lean));
+            // The same colour bytes as DXT1, which has three colours and black where endpoints do not fall.
+            let colors: Vec<u8> = dxt3.chunks(16).flat_map(|block| block[8..].to_vec()).collect();
+            let decode = |data, format| decode_compressed_to_rgba(data, width, height, format).unwrap();
+            let dxt1 = decode(&colors, CompressedFormat::RGBA_S3TC_DXT1);
+            let dxt3 = decode(&dxt3, CompressedFormat::RGBA_S3TC_DXT3);
+            let dxt5 = decode(&dxt5, CompressedFormat::RGBA_S3TC_DXT5);
+            let mut unlike = 0;
+            for ((dxt1, dxt3), dxt5) in dxt1.chunks(4).zip(dxt3.chunks(4)).zip(dxt5.chunks(4)) {
+                assert_eq!(dxt3[..3], dxt5[..3]);
+                assert_eq!(dxt3[3] % 17, 0);
+                assert!(dxt3[3].abs_diff(dxt5[3]) <= 24);
+                unlike += u32::from(dxt1[..3] != dxt3[..3]);
+            }
+            assert!(unlike > 300, "{unlike}");
+            let finer = dxt5.chunks(4).filter(|texel| texel[3] % 17 != 0).count();
+            assert!(finer > 500, "{finer}");
+        }
     }
 
     #[test]

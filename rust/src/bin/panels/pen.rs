@@ -68,6 +68,17 @@ impl Pen {
         Settings { alpha_test: true, alpha_func: CompareFunc::Greater, alpha_ref: 0.5, ..self.settings() }
     }
 
+    /// The same, where what is drawn is blended over what is there, by its alpha.
+    pub fn blended(&self) -> Settings {
+        Settings {
+            blend: true,
+            blend_src: BlendFactor::SrcAlpha,
+            blend_dst: BlendFactor::OneMinusSrcAlpha,
+            color_mask: [true, true, true, false],
+            ..self.settings()
+        }
+    }
+
     /// The whole window in one colour, and its depths 1.
     pub fn clear(&mut self, color: Color) {
         let scissor = Some(self.window);
@@ -108,14 +119,7 @@ impl Pen {
 
     /// A tile that is blended over what is there, by the colour's alpha.
     pub fn glass(&mut self, x: i32, y: i32, width: i32, height: i32, color: Color) {
-        let settings = Settings {
-            blend: true,
-            blend_src: BlendFactor::SrcAlpha,
-            blend_dst: BlendFactor::OneMinusSrcAlpha,
-            color_mask: [true, true, true, false],
-            ..self.settings()
-        };
-        self.tile_of([x, y, width, height], settings, &[], [(unit(color), [0.0; 2]); 3]);
+        self.tile_of([x, y, width, height], self.blended(), &[], [(unit(color), [0.0; 2]); 3]);
     }
 
     /// A tile shaded from its lower end to its upper.

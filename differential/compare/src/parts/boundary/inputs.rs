@@ -363,6 +363,7 @@ pub fn largest_calls(rng: &mut Rng) -> Vec<Call> {
     vec![
         call(DECODE, &[1024, 1024, 0x1908, 0x1401], vec![bytes(image), bytes(image)]),
         call(DECODE_COMPRESSED, &[1024, 1024, 0x8C93], vec![bytes(image / 4), bytes(image)]),
+        call(DECODE_COMPRESSED, &[1024, 1024, 0x83F3], vec![bytes(image / 4), bytes(image)]),
         call(SAMPLE, &[float(0.9999), float(0.9999), 0, 0, 0, 0], vec![full.bytes(), bytes(image), bytes(4)]),
         call(DEFINE, &[0, 1024, 1024, 0], vec![empty.bytes(), bytes(image), bytes(image)]),
         call(PATCH, &[0, 0, 0, 1024, 1024], vec![full.bytes(), bytes(image), bytes(image)]),

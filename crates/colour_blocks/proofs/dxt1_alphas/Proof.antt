@@ -1,6 +1,6 @@
 -- `dxt1_alphas` meets its contract. The invariant: the first i alphas are there. Assumes nothing.
 use Rattle.alpha_blocks.specs.AlphaBlocks.{selector}
-use Rattle.blocks.specs.Blocks.{dxt1AlphaOf}
+use Rattle.colour_blocks.specs.ColourBlocks.{dxt1AlphaOf}
 use Rattle.lists.proofs.Tables.{tab-none, tab-more}
 use Rattle.lists.specs.Lists.{tab}
 use lib.ListN.{drop}
@@ -9,8 +9,8 @@ use native.Mathlib.Omega.{arith}
 use Prim.Native.Nat.{_-_, _≤_}
 use mathlib.Core.List.{_++_, append-nil}
 use mathlib.Core.Path.{_≡_, _∙_}
-use Rattle.blocks.proofs.dxt1_alphas.Statement.{statement}
-use Rattle.blocks.proofs.dxt1_alphas.Tie as tie
+use Rattle.colour_blocks.proofs.dxt1_alphas.Statement.{statement}
+use Rattle.colour_blocks.proofs.dxt1_alphas.Tie as tie
 
 abbrev Inv-loop : tie.InvT-loop
 Inv-loop c0 c1 bits out₀ i₀ out i =

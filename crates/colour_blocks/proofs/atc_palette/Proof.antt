@@ -1,9 +1,9 @@
 -- `atc_palette` meets its contract, by the mode bit. Assumes nothing.
 use borrow.Author.Tests.{lt-ltb, le-ltb}
-use Rattle.blocks.specs.Blocks.{atcPalette}
+use Rattle.colour_blocks.specs.ColourBlocks.{atcPalette}
 use borrow.Author.Needs.{needs}
-use Rattle.blocks.proofs.atc_palette.Statement.{statement}
-use Rattle.blocks.proofs.atc_palette.Tie as tie
+use Rattle.colour_blocks.proofs.atc_palette.Statement.{statement}
+use Rattle.colour_blocks.proofs.atc_palette.Tie as tie
 
 returns : tie.Need-returns
 unfolding atcPalette

@@ -1,7 +1,7 @@
 -- `chosen` meets its contract. The invariant: the first i texels are chosen. Assumes nothing.
 use mathlib.Core.List.{[], _++_, append-nil}
 use Rattle.alpha_blocks.specs.AlphaBlocks.{selector}
-use Rattle.blocks.specs.Blocks.{chosen}
+use Rattle.colour_blocks.specs.ColourBlocks.{chosen}
 use Rattle.lists.proofs.Tables.{tab-none, tab-more}
 use Rattle.lists.specs.Lists.{tab}
 use lib.ListN.{drop, getD}
@@ -9,8 +9,8 @@ use borrow.Author.Needs.{needs}
 use native.Mathlib.Omega.{arith}
 use Prim.Native.Nat.{_-_, _≤_}
 use mathlib.Core.Path.{_≡_, _∙_}
-use Rattle.blocks.proofs.chosen.Statement.{statement}
-use Rattle.blocks.proofs.chosen.Tie as tie
+use Rattle.colour_blocks.proofs.chosen.Statement.{statement}
+use Rattle.colour_blocks.proofs.chosen.Tie as tie
 
 abbrev Inv-loop : tie.InvT-loop
 Inv-loop bits palette out₀ i₀ out i =

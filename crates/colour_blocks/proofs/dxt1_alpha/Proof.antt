@@ -1,10 +1,10 @@
 -- `dxt1_alpha` meets its contract, test by test. Assumes nothing.
 use Rattle.lists.proofs.Choice.{yes, no}
 use borrow.Author.Tests.{lt-ltb, le-ltb, eq-eqb, ne-eqb}
-use Rattle.blocks.specs.Blocks.{dxt1AlphaOf}
+use Rattle.colour_blocks.specs.ColourBlocks.{dxt1AlphaOf}
 use mathlib.Core.Path.{refl}
-use Rattle.blocks.proofs.dxt1_alpha.Statement.{statement}
-use Rattle.blocks.proofs.dxt1_alpha.Tie as tie
+use Rattle.colour_blocks.proofs.dxt1_alpha.Statement.{statement}
+use Rattle.colour_blocks.proofs.dxt1_alpha.Tie as tie
 
 returns : tie.Need-returns
 unfolding dxt1AlphaOf

@@ -1,9 +1,9 @@
 -- `dxt1_alpha_block` meets its contract: what its callees ensure, joined. Assumes nothing.
 use mathlib.Core.Path.{_∙_}
-use Rattle.blocks.specs.Blocks.{dxt1Alpha}
+use Rattle.colour_blocks.specs.ColourBlocks.{dxt1Alpha}
 use borrow.Author.Needs.{needs}
-use Rattle.blocks.proofs.dxt1_alpha_block.Statement.{statement}
-use Rattle.blocks.proofs.dxt1_alpha_block.Tie as tie
+use Rattle.colour_blocks.proofs.dxt1_alpha_block.Statement.{statement}
+use Rattle.colour_blocks.proofs.dxt1_alpha_block.Tie as tie
 
 returns : tie.Need-returns
 unfolding dxt1Alpha

@@ -1,8 +1,8 @@
 -- `atc_rgb_block` meets its contract: what its callees ensure, joined. Assumes nothing.
-use Rattle.blocks.specs.Blocks.{atc}
+use Rattle.colour_blocks.specs.ColourBlocks.{atc}
 use borrow.Author.Needs.{needs}
-use Rattle.blocks.proofs.atc_rgb_block.Statement.{statement}
-use Rattle.blocks.proofs.atc_rgb_block.Tie as tie
+use Rattle.colour_blocks.proofs.atc_rgb_block.Statement.{statement}
+use Rattle.colour_blocks.proofs.atc_rgb_block.Tie as tie
 
 returns : tie.Need-returns
 unfolding atc

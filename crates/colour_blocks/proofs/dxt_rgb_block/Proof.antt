@@ -1,0 +1,16 @@
+-- `dxt_rgb_block` meets its contract: what its callees ensure, joined. Assumes nothing.
+use Rattle.colour_blocks.specs.ColourBlocks.{dxt}
+use borrow.Author.Needs.{needs}
+use Rattle.colour_blocks.proofs.dxt_rgb_block.Statement.{statement}
+use Rattle.colour_blocks.proofs.dxt_rgb_block.Tie as tie
+
+returns : tie.Need-returns
+unfolding dxt
+returns c = cc
+
+pub dxt-rgb-block-spec : {M : Type 1} → statement M
+dxt-rgb-block-spec =
+    tie.close
+    (tie.spec
+    (λ c κs. search needs) (λ c. search needs) (λ c κs. search needs) (λ c κs. search needs) (λ c. search needs)
+    (λ c κs. search needs) (λ c κs. search needs) returns)
