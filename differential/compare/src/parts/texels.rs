@@ -15,8 +15,8 @@ pub(super) const FORMATS: [u32; 5] = [0x1906, 0x1907, 0x1908, 0x1909, 0x190A];
 pub(super) const PACKED: [u32; 3] = [0x8363, 0x8033, 0x8034];
 const BYTE: u32 = 0x1401;
 const DXT1: [u32; 2] = [0x83F0, 0x83F1];
-/// DXT3 and DXT5 (2026-14), which the Rust refuses.
-const NEW: [u32; 2] = [0x83F2, 0x83F3];
+/// DXT3 and DXT5 (2026-14), which always have four colours, and which the Rust refuses.
+const FOUR: [u32; 2] = [0x83F2, 0x83F3];
 const ATC: [u32; 3] = [0x8C92, 0x8C93, 0x87EE];
 pub(super) const BLOCKS: [u32; 7] = [0x83F0, 0x83F1, 0x83F2, 0x83F3, 0x8C92, 0x8C93, 0x87EE];
 pub(super) const PALETTES: [u32; 10] = [0x8B90, 0x8B91, 0x8B92, 0x8B93, 0x8B94, 0x8B95, 0x8B96, 0x8B97, 0x8B98, 0x8B99];
@@ -68,7 +68,7 @@ fn made_opaque(mut image: Vec<u8>) -> Vec<u8> {
 
 /// The code under which the Rust has a format's size and alphas: for DXT3 and DXT5 that of ATC's with the same alphas.
 fn beside(format: u32) -> u32 {
-    NEW.iter().position(|&new| new == format).map_or(format, |i| ATC[i + 1])
+    FOUR.iter().position(|&four| four == format).map_or(format, |i| ATC[i + 1])
 }
 
 fn size_of(format: u32, width: u32, height: u32) -> Option<usize> {
@@ -80,14 +80,14 @@ fn endpoints(block: [u8; 8]) -> Ordering {
     u16::from_le_bytes([block[0], block[1]]).cmp(&u16::from_le_bytes([block[2], block[3]]))
 }
 
-/// 2026-14: the DXT1 block with four colours in which the Rust has the texels of a colour block that always has four.
-fn four_colours(block: [u8; 8]) -> [u8; 8] {
+/// 2026-14: the DXT1 block that has, as the Rust reads it, the texels of a colour block with four colours, whatever its endpoints' order.
+fn as_dxt1(block: [u8; 8]) -> [u8; 8] {
     let [a, b, c, d, e, f, g, h] = block;
     match endpoints(block) {
         Ordering::Greater => block,
         // The endpoints exchanged, so that selectors 0, 1, 2 and 3 become 1, 0, 3 and 2.
         Ordering::Less => [c, d, a, b, e ^ 0x55, f ^ 0x55, g ^ 0x55, h ^ 0x55],
-        // All four colours are the endpoints': each texel has the first.
+        // All four colours are the endpoints': each texel has the first, none black.
         Ordering::Equal => [a, b, c, d, 0, 0, 0, 0],
     }
 }
@@ -103,10 +103,10 @@ fn image_of(data: &[u8], width: u32, height: u32, format: u32) -> Option<Vec<u8>
     if format == DXT1[0] {
         return Some(made_opaque(image));
     }
-    if !NEW.contains(&format) {
+    if !FOUR.contains(&format) {
         return Some(image);
     }
-    let dxt1: Vec<u8> = colour_blocks(data).flat_map(four_colours).collect();
+    let dxt1: Vec<u8> = colour_blocks(data).flat_map(as_dxt1).collect();
     let colours = rust::decode_compressed_to_rgba(&dxt1, width, height, DXT1[1]).expect("as many blocks");
     let texels = colours.chunks(4).zip(image.chunks(4));
     Some(texels.flat_map(|(colour, alpha)| [colour[0], colour[1], colour[2], alpha[3]]).collect())
@@ -250,7 +250,7 @@ fn try_call(tally: &mut Tally, call: &Call) {
                 let rust = rust::decode_compressed_to_rgba(&call.data, w, h, call.format).expect("it was answered with 0");
                 count_black(tally, call.format, &rust, &answered(call).out);
             }
-            if NEW.contains(&call.format) {
+            if FOUR.contains(&call.format) {
                 assert_eq!(rust::decode_compressed_to_rgba(&call.data, w, h, call.format), None);
                 tally.count(&format!("images of {:04X} that the Rust refuses", call.format));
                 let blocks = size_of(call.format, w, h).expect("it was answered with 0") / 16;
@@ -380,8 +380,8 @@ fn joined(rgb: [[u8; 3]; 16], alpha: [u8; 16]) -> [[u8; 4]; 16] {
 fn try_block(tally: &mut Tally, block: [u8; 8], alphas: [u8; 8]) {
     let difference = |&(block, alphas): &([u8; 8], [u8; 8])| {
         let (rgb, alpha) = rust::probe::dxt1_rgb_block(&block);
-        let (four, none) = rust::probe::dxt1_rgb_block(&four_colours(block));
-        assert_eq!(none, [255; 16], "the block has a fourth colour that is black");
+        let (four, opaque) = rust::probe::dxt1_rgb_block(&as_dxt1(block));
+        assert_eq!(opaque, [255; 16], "the block to judge by has black texels");
         let atc = rust::probe::atc_rgb_block(&block);
         let both = [alphas, block].concat();
         let explicit: [u8; 16] = std::array::from_fn(|i| rust::probe::expand4(u16::from(alphas[i / 2] >> (4 * (i % 2)))));
@@ -389,8 +389,8 @@ fn try_block(tally: &mut Tally, block: [u8; 8], alphas: [u8; 8]) {
         let wanted = [
             (DXT1[0], texels_of(DXT1[0], &block), joined(rgb, [255; 16])),
             (DXT1[1], texels_of(DXT1[1], &block), joined(rgb, alpha)),
-            (NEW[0], texels_of(NEW[0], &both), joined(four, explicit)),
-            (NEW[1], texels_of(NEW[1], &both), joined(four, interpolated)),
+            (FOUR[0], texels_of(FOUR[0], &both), joined(four, explicit)),
+            (FOUR[1], texels_of(FOUR[1], &both), joined(four, interpolated)),
             (ATC[0], texels_of(ATC[0], &block), joined(atc, [255; 16])),
             (ATC[1], texels_of(ATC[1], &both), joined(atc, explicit)),
             (ATC[2], texels_of(ATC[2], &both), joined(atc, interpolated)),
@@ -403,7 +403,7 @@ fn try_block(tally: &mut Tally, block: [u8; 8], alphas: [u8; 8]) {
     for format in DXT1 {
         count_black(tally, format, joined(rgb, alpha).as_flattened(), texels_of(format, &block).as_flattened());
     }
-    for format in NEW {
+    for format in FOUR {
         count_endpoints(tally, format, [block].into_iter());
         let port = texels_of(format, &[alphas, block].concat());
         count_unlike_dxt1(tally, format, joined(rgb, alpha).as_flattened(), port.as_flattened());
@@ -566,7 +566,7 @@ fn run(ctx: &mut Ctx) {
     for name in [OPAQUE_BLACK, TRANSPARENT_BLACK] {
         ctx.floor(name, 500_000);
     }
-    for format in NEW {
+    for format in FOUR {
         ctx.floor(&format!("images of {format:04X} that the Rust refuses"), 1000);
         for order in ["rising", "equal", "falling"] {
             ctx.floor(&format!("blocks of {format:04X} with {order} endpoints"), 50_000);

@@ -57,7 +57,7 @@ fn burning(lean: i32, x: i32, y: i32) -> ([u8; 3], u8) {
     )
 }
 
-/// The flare as DXT3. Endpoints never fall here either: a block has four colours all the same.
+/// The flare as DXT3. Endpoints never fall here either, and a block has four colours nevertheless.
 pub fn flare_dxt3(lean: i32) -> Vec<u8> {
     flare(lean, |alphas| std::array::from_fn(|i| (alphas[2 * i] + 8) / 17 | (alphas[2 * i + 1] + 8) / 17 << 4))
 }
