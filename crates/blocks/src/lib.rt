@@ -6,15 +6,15 @@ ghost use Prim.Native.Nat.{_+_, _≤_};
 ghost use lib.ListN.{length};
 ghost use Rattle.blocks.specs.Blocks.{opaque, blockBytes, isDxt, alwaysFour, alphaBytes, blockRgb, alphasOf, blockAlpha};
 
-// The formats whose images are made of blocks.
+// The formats whose images are made of blocks. DXT3 and DXT5 stand last: between the others they slow down DXT1 and ATC (docs/BENCHMARKS.md).
 pub enum Block {
     Dxt1Rgb,
     Dxt1Rgba,
-    Dxt3,
-    Dxt5,
     AtcRgb,
     AtcExplicit,
     AtcInterpolated,
+    Dxt3,
+    Dxt5,
 }
 
 // How the alphas of a block are read: 255 throughout, by the colours' selectors, four bits each, or by selectors of their own.
