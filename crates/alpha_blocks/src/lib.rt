@@ -1,4 +1,6 @@
 // The alphas of a block of four by four texels that has them apart: explicit and interpolated (texture.rs).
+#![tactic(auto)]
+
 ghost use Rattle.std.specs.Prelude.{◌≡◌, ◌+◌, ◌*◌, ◌/◌, ◌%◌, ◌^◌, ◌≤◌, ◌<◌, length, get_or};
 ghost use Rattle.texels.specs.Texels;
 ghost use Rattle.lists.specs.Lists.{tab};

@@ -1,9 +1,11 @@
 // What an operation answers: done, or refused for one reason, whose number document 01 gives.
+#![tactic(auto)]
+
 ghost use Rattle.std.specs.Prelude.{◌≡◌};
 ghost use Rattle.answers.specs.Numbers.{refusal_number, number_of};
 
 // The reasons, in the order of their numbers in document 01.
-#[derive(Drop)]
+#[derive(Clone, Copy)]
 pub enum Refusal {
     Target,
     Scissor,
@@ -23,7 +25,7 @@ pub enum Refusal {
     Code,
 }
 
-#[derive(Drop)]
+#[derive(Clone, Copy)]
 pub enum Answer {
     Done,
     Refused(Refusal),

@@ -1,4 +1,6 @@
 // Images made of blocks of four by four texels (texture.rs, decode_compressed_to_rgba).
+#![tactic(auto)]
+
 ghost use Rattle.std.specs.Prelude.{◌≡◌, ◌+◌, ◌*◌, ◌/◌, ◌%◌, ◌≤◌, ◌<◌, length};
 ghost use Rattle.blocks.specs.Blocks.{block_bytes, texel_of, texel_from, block_texel};
 ghost use Rattle.block_images.specs.Walk.{blocks_over, block_image, put_texel, put_block, put_row, put_rows, InImage};

@@ -1,4 +1,6 @@
 // Blocks of four by four texels: what each format's bytes are, its colours and its alphas (texture.rs; DXT3 and DXT5 by 2026-14).
+#![tactic(auto)]
+
 ghost use Rattle.std.specs.Prelude.{◌≡◌, ◌+◌, ◌≤◌, length};
 ghost use Rattle.blocks.specs.Blocks.{opaque, block_bytes, is_dxt, always_four, alpha_bytes, block_rgb, alphas_of, block_alpha};
 
@@ -6,7 +8,7 @@ use alpha_blocks::*;
 use colour_blocks::*;
 
 // The formats whose images are made of blocks. DXT3 and DXT5 stand last: between the others they slow down DXT1 and ATC (docs/BENCHMARKS.md).
-#[derive(Drop)]
+#[derive(Clone, Copy)]
 pub enum Block {
     Dxt1Rgb,
     Dxt1Rgba,
@@ -18,7 +20,7 @@ pub enum Block {
 }
 
 // How the alphas of a block are read: 255 throughout, by the colours' selectors, four bits each, or by selectors of their own.
-#[derive(Drop)]
+#[derive(Clone, Copy)]
 pub enum Alphas {
     Opaque,
     Selected,

@@ -1,4 +1,6 @@
 // A colour channel as a byte and as a float from 0 to 1.
+#![tactic(auto)]
+
 ghost use Rattle.std.specs.Prelude.{◌≡◌, true, cond};
 ghost use Rattle.std.specs.Float.Ieee as Ieee;
 ghost use Rattle.floats.specs.Num.{zero32};

@@ -1,4 +1,6 @@
 // Clipping a triangle to the frustum: the polygon that the seven planes leave, and the fan of triangles that it is drawn as.
+#![tactic(auto)]
+
 ghost use Rattle.std.specs.Prelude.{◌≡◌, ◌+◌, ◌%◌, ◌<◌, ◌≤◌, [], ◌∷◌, ◌++◌, length};
 ghost use Rattle.polygon.specs.Corners.{corners_of};
 ghost use Rattle.clip.specs.Clip.{insides, kept, crossing, walked, clip_plane, clipped, all_inside};

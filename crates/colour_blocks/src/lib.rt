@@ -1,4 +1,6 @@
 // The colours of a block of four by four texels, DXT and ATC, and DXT1's alphas, which stand among them (texture.rs; DXT3 and DXT5 by 2026-14).
+#![tactic(auto)]
+
 ghost use Rattle.std.specs.Prelude.{◌≡◌, true, cond, ltb, ◌+◌, ◌≤◌, ◌<◌, length};
 ghost use Rattle.texels.specs.Texels.{half};
 ghost use Rattle.lists.specs.Lists.{tab};

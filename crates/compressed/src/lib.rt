@@ -1,4 +1,6 @@
 // Compressed images: the size query and the decode (texture.rs, compressed_image_size and decode_compressed_to_rgba).
+#![tactic(auto)]
+
 ghost use Rattle.std.specs.Prelude.{◌≡◌, false, ◌+◌, ◌*◌, ◌^◌, ◌≤◌, ◌<◌, length};
 ghost use Rattle.answers.specs.Numbers.{number_of};
 ghost use Rattle.palette_images.specs.Paletted.{paletted_bytes};
@@ -12,7 +14,7 @@ use palette_images::{decode_paletted, row_bytes};
 use texels::{Texel, texel_bytes};
 
 // What a compressed format's code stands for.
-#[derive(Drop)]
+#[derive(Clone, Copy)]
 pub enum Compressed {
     Blocks(Block),
     Palette4(Texel),
@@ -21,7 +23,7 @@ pub enum Compressed {
 }
 
 // What a size query answers.
-#[derive(Drop)]
+#[derive(Clone, Copy)]
 pub enum Sized {
     Bytes(usize),
     Refused(Refusal),

@@ -1,4 +1,5 @@
 // The codes of consts.rs that document 01 uses, and those of document 02, under their names.
+#![tactic(auto)]
 
 // Texel formats and types
 pub const GL_UNSIGNED_BYTE: u32 = 0x1401;

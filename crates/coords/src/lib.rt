@@ -1,4 +1,6 @@
 // Texel indices along one side of a level.
+#![tactic(auto)]
+
 ghost use Rattle.std.specs.Prelude.{◌≡◌, true, ◌+◌, ◌≤◌, ◌<◌, pos, negsuc};
 ghost use Rattle.std.specs.Float.Ieee as Ieee;
 ghost use Rattle.floats.specs.Num.{of_nat32};
@@ -9,7 +11,7 @@ use levels::Wrap;
 use rounding::Whole;
 
 // The two texels of a linear sample on one axis, and the weight of the second.
-#[derive(Drop)]
+#[derive(Clone, Copy)]
 pub struct Axis {
     pub first: u32,
     pub second: u32,
@@ -17,14 +19,14 @@ pub struct Axis {
 }
 
 // The axes along a level's width and its height.
-#[derive(Drop)]
+#[derive(Clone, Copy)]
 pub struct Axes {
     pub x: Axis,
     pub y: Axis,
 }
 
 // The floor of a float: as a whole number, and as a float.
-#[derive(Drop)]
+#[derive(Clone, Copy)]
 struct Floor {
     whole: Whole,
     low: f32,

@@ -1,4 +1,6 @@
 // A pixel's weights, whether a triangle covers it, and what lies between the triangle's corners there (raster.rs, raster_clipped).
+#![tactic(auto)]
+
 ghost use Rattle.std.specs.Prelude.{◌≡◌, ◌<◌};
 ghost use Rattle.gradients.specs.Gradients.{sum_of, per_corner};
 ghost use Rattle.coverage.specs.Coverage.{centre_of, edge_of, weights_of, covered_by, depth_at, inv_wat, usable, shares_of, color_of};
@@ -10,7 +12,7 @@ use setup::Raster;
 use vertices::Vertex;
 
 // A triangle ready to fill: its corners on the screen, its slopes, and the vertices that it interpolates.
-#[derive(Drop)]
+#[derive(Clone, Copy)]
 pub struct Primitive {
     pub raster: Raster,
     pub derivatives: TriangleDerivatives,

@@ -1,4 +1,6 @@
 // draw_triangle (raster.rs): the checks of document 01 in their order, then the draw.
+#![tactic(auto)]
+
 pub mod plain;
 
 ghost use Rattle.std.specs.Prelude.{◌≡◌, true, ◌<◌, length};
@@ -17,7 +19,7 @@ use setup::PixelBox;
 use vertices::Vertex;
 
 // A draw's answer: the number of pixel writes, which its guest is billed for, or the refusal.
-#[derive(Drop)]
+#[derive(Clone, Copy)]
 pub enum DrawAnswer {
     Drew(usize),
     Refused(Refusal),

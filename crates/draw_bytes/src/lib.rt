@@ -1,4 +1,6 @@
 // The byte layouts of a draw, written (docs/INTERFACE.md, "Draw"): what crate draw_layouts reads.
+#![tactic(auto)]
+
 ghost use Rattle.std.specs.Prelude.{◌≡◌, ◌*◌, ◌%◌, length};
 ghost use Rattle.draw_bytes.specs.Write.{word_bytes, bytes_of, bits_of, float_bits, switch_word, compare_code, factor_code, mode_code, cull_code, face_code, fog_code, env_code, is_boxed, number_words, viewport_words, box_words, settings_words, stage_words, vertex_words};
 

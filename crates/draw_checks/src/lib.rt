@@ -1,4 +1,6 @@
 // The checks of a draw, in document 01's order: 1, 2, 3, 4, 7, 6, and then 8, 5.
+#![tactic(auto)]
+
 ghost use Rattle.std.specs.Prelude.{◌≡◌, ◌≤◌, length, [], ◌∷◌};
 ghost use Rattle.lists.specs.Lists.{all};
 ghost use Rattle.answers.specs.Numbers.{number_of};

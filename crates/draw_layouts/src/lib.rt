@@ -1,4 +1,6 @@
 // The byte layouts of a draw, as they cross the C boundary (docs/INTERFACE.md): settings, stages, vertices and the units' records.
+#![tactic(auto)]
+
 ghost use Rattle.std.specs.Prelude.{◌≡◌, false, cond, ◌+◌, ◌*◌, ◌≤◌, ◌<◌, length};
 ghost use Rattle.settings.specs.Settings.{read_compare, read_factor};
 ghost use Rattle.draw_layouts.specs.Numbers.{signed_of, signed_at, float_at, switch_at, color_at, four_at, eight_at};
@@ -22,21 +24,21 @@ use settings::{
 use vertices::Vertex;
 
 // What the layouts hold; `known` is false where one holds nothing.
-#[derive(Drop)]
+#[derive(Clone, Copy)]
 pub struct SettingsRead {
     pub known: bool,
     pub state: PipelineState,
 }
 
 // count: all stages of the layout, of which the first four are read.
-#[derive(Drop)]
+#[derive(Clone, Copy)]
 pub struct StagesRead {
     pub known: bool,
     pub stages: [TextureStage; 4],
     pub count: usize,
 }
 
-#[derive(Drop)]
+#[derive(Clone, Copy)]
 pub struct VerticesRead {
     pub known: bool,
     pub a: Vertex,
@@ -44,7 +46,7 @@ pub struct VerticesRead {
     pub c: Vertex,
 }
 
-#[derive(Drop)]
+#[derive(Clone, Copy)]
 pub struct UnitsRead {
     pub known: bool,
     pub units: [Texture; 4],

@@ -1,4 +1,6 @@
 // The colours of a render target as 5-6-5 (raster.rs, RenderTarget::to_rgb565).
+#![tactic(auto)]
+
 ghost use Rattle.std.specs.Prelude.{◌≡◌, ◌++◌, ◌+◌, ◌*◌, ◌/◌, ◌%◌, ◌≤◌, ◌<◌, length, get_or, drop};
 ghost use Rattle.lists.specs.Lists.{flat};
 ghost use Rattle.answers.specs.Numbers.{number_of};

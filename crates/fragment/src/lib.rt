@@ -1,4 +1,6 @@
 // The steps of a fragment (raster.rs, raster_clipped and apply_tex_env): environments, tests, fog, blending, the masked write.
+#![tactic(auto)]
+
 ghost use Rattle.std.specs.Prelude.{◌≡◌, ◌+◌, ◌<◌, length};
 ghost use Rattle.fragment.specs.Fragment.{units_of, modulate_of, decal_of, env_blend_of, add_of, env_of, tex_env_of};
 ghost use Rattle.fragment.specs.Fragment.{depth_passes, alpha_passes, linear_fog_of, fog_factor_of, fog_mix_of, fogged_of};

@@ -1,16 +1,18 @@
 // Numbers between the corners of a triangle: weighted sums, perspective-correct attributes, and their slopes on the screen.
+#![tactic(auto)]
+
 ghost use Rattle.std.specs.Prelude.{◌≡◌};
 ghost use Rattle.gradients.specs.Gradients.{sum_of, perspective_sum, slopes_x, slopes_y, derivatives_of, slope_of, attribute_of};
 
 // A number for each corner of a triangle.
-#[derive(Drop)]
+#[derive(Clone, Copy)]
 pub struct PerCorner {
     pub a: f32,
     pub b: f32,
     pub c: f32,
 }
 
-#[derive(Drop)]
+#[derive(Clone, Copy)]
 pub struct TriangleDerivatives {
     pub inv_w: PerCorner,
     pub barycentric_dx: PerCorner,
@@ -20,7 +22,7 @@ pub struct TriangleDerivatives {
 }
 
 // An attribute at a pixel, and its slopes across and down the screen.
-#[derive(Drop)]
+#[derive(Clone, Copy)]
 pub struct Attribute {
     pub value: f32,
     pub dx: f32,

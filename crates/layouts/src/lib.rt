@@ -1,4 +1,6 @@
 // The byte layout of a texture record, as it crosses the C boundary (docs/INTERFACE.md).
+#![tactic(auto)]
+
 ghost use Rattle.std.specs.Prelude.{◌≡◌, ◌++◌, true, cond, ℕ, ◌+◌, ◌*◌, ◌%◌, ◌≤◌, ◌<◌, length, drop};
 ghost use Rattle.lists.specs.Lists.{tab, flat};
 ghost use Rattle.levels.specs.Levels.{level_of, valid_of};
@@ -10,7 +12,7 @@ use levels::{Filter, MinFilter, MipLevel, Texture, Wrap};
 use texture::{FilterCode, MinFilterCode, WrapCode};
 
 // The record that a layout holds; `known` is false where it holds none.
-#[derive(Drop)]
+#[derive(Clone, Copy)]
 pub struct RecordRead {
     pub known: bool,
     pub texture: Texture,

@@ -1,16 +1,18 @@
 // A texture's record: eleven levels with their places in a texel store, the top level, filters and wraps.
 // Anyone may hand in any record; `is_valid` tells which ones document 01 takes.
+#![tactic(auto)]
+
 ghost use Rattle.std.specs.Prelude.{◌≡◌, true, ◌+◌, ◌≤◌, ◌<◌, length, get_or, drop};
 ghost use Rattle.lists.specs.Lists.{any, all};
 ghost use Rattle.levels.specs.Levels.{absent, levels_of, size_of, texels_of, new_texture, complete, half, single, follows, top_of, overlap, overlaps, apart, starts_at, end_of, ascending, fits, valid_levels, valid_of, Fits};
 
-#[derive(Drop)]
+#[derive(Clone, Copy)]
 pub enum Filter {
     Nearest,
     Linear,
 }
 
-#[derive(Drop)]
+#[derive(Clone, Copy)]
 pub enum MinFilter {
     Nearest,
     Linear,
@@ -20,14 +22,14 @@ pub enum MinFilter {
     LinearMipmapLinear,
 }
 
-#[derive(Drop)]
+#[derive(Clone, Copy)]
 pub enum Wrap {
     Repeat,
     ClampToEdge,
 }
 
 // `place` is the level's first byte in the store. The fields of an absent level are ignored, and so is level 0's flag.
-#[derive(Drop)]
+#[derive(Clone, Copy)]
 pub struct MipLevel {
     pub present: bool,
     pub place: usize,
@@ -35,7 +37,7 @@ pub struct MipLevel {
     pub height: u32,
 }
 
-#[derive(Drop)]
+#[derive(Clone, Copy)]
 pub struct Texture {
     pub levels: [MipLevel; 11],
     pub max_mipmap_level: usize,

@@ -1,4 +1,6 @@
 // Which levels a sample reads, and by which filter.
+#![tactic(auto)]
+
 ghost use Rattle.std.specs.Prelude.{◌≡◌, cond, ◌*◌, ◌≤◌};
 ghost use Rattle.detail.specs.Steps.{Thresholds, cut_of};
 ghost use Rattle.mipmaps.specs.Mipmaps.{texel_filter, mipmap_filter, same_filter, between, minified, q_at, above_one, chosen_of};
@@ -6,7 +8,7 @@ ghost use Rattle.mipmaps.specs.Mipmaps.{texel_filter, mipmap_filter, same_filter
 use levels::{Filter, MinFilter};
 
 // A texture coordinate and its gradients along x and y.
-#[derive(Drop)]
+#[derive(Clone, Copy)]
 pub struct Coordinates {
     pub s: f32,
     pub t: f32,
@@ -17,7 +19,7 @@ pub struct Coordinates {
 }
 
 // What a minifying filter does with the levels above 0.
-#[derive(Drop)]
+#[derive(Clone, Copy)]
 pub enum Mipmap {
     Off,
     NearestLevel,
@@ -25,7 +27,7 @@ pub enum Mipmap {
 }
 
 // One level; or a level, the next, and how many 256ths of the way to it.
-#[derive(Drop)]
+#[derive(Clone, Copy)]
 pub enum Chosen {
     One {
         level: usize,

@@ -1,4 +1,5 @@
 // The pixel's way (raster.rs, raster_clipped): weights, depth test, 1/w, colour, stages, alpha test, fog, blend, masked colour, depth, count.
+#![tactic(auto)]
 
 ghost use Rattle.std.specs.Prelude.{◌≡◌, ◌+◌, ◌*◌, ◌<◌, ◌≤◌, length, get_or, set, []};
 ghost use Rattle.detail.specs.Steps.{Thresholds};
@@ -15,7 +16,7 @@ use levels::Texture;
 use settings::{BlendFactor, PipelineState, Rgba, TextureStage};
 
 // What becomes of a pixel's fragment: it is dropped, or kept with its depth and colour.
-#[derive(Drop)]
+#[derive(Clone, Copy)]
 pub enum Fragment {
     Dropped,
     Kept(f32, Rgba),

@@ -1,4 +1,6 @@
 // A pixel of a draw without a stage: no record and no texel is passed along.
+#![tactic(auto)]
+
 pub mod solid;
 
 ghost use Rattle.std.specs.Prelude.{◌≡◌, false, cond, not, ◌+◌, ◌*◌, ◌<◌, ◌≤◌, length, []};

@@ -6,7 +6,7 @@ ghost use Rattle.plain_pixels.specs.Solid.{all_on, solid_of, solid_color};
 use coverage::Primitive;
 use settings::{ColorMask, PipelineState};
 
-#[derive(Drop)]
+#[derive(Clone, Copy)]
 pub struct SolidColor {
     pub r: u8,
     pub g: u8,

@@ -1,4 +1,6 @@
 // Filling without a stage: no record and no texel is passed along.
+#![tactic(auto)]
+
 mod solid;
 
 ghost use Rattle.std.specs.Prelude.{◌≡◌, [], ◌∷◌, ◌+◌, ◌*◌, ◌-◌, ◌<◌, ◌≤◌, length};

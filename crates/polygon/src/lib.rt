@@ -1,4 +1,6 @@
 // The corners of a polygon under clipping, in a lent array: seventeen floats a corner, room for the 42 that clipping can leave.
+#![tactic(auto)]
+
 ghost use Rattle.std.specs.Prelude.{◌≡◌, ◌+◌, ◌*◌, ◌<◌, ◌≤◌, length};
 ghost use Rattle.std.proofs.Math.Seq.{paste};
 ghost use Rattle.polygon.specs.Corners.{vertex_at, put_at, Full, corners_of};

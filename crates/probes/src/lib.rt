@@ -1,4 +1,6 @@
 // Internal functions of the port, exported for the comparisons of differential/ and bench/ alone. No part of the product.
+#![tactic(auto)]
+
 mod probe_clip;
 mod probe_floats;
 mod probe_sampler;

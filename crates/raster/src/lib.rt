@@ -1,4 +1,5 @@
 // Filling the triangles that clipping leaves (raster.rs, raster_clipped and draw_triangle past its checks).
+#![tactic(auto)]
 
 ghost use Rattle.std.specs.Prelude.{◌≡◌, ◌+◌, ◌*◌, ◌-◌, ◌<◌, ◌≤◌, length, [], ◌∷◌};
 ghost use Rattle.detail.specs.Steps.{Thresholds};

@@ -1,4 +1,6 @@
 // Clears of a render target (raster.rs, RenderTarget).
+#![tactic(auto)]
+
 ghost use Rattle.std.specs.Prelude.{◌≡◌, ◌*◌, ◌≤◌, length, get_or};
 ghost use Rattle.std.specs.Float.{nan};
 ghost use Rattle.answers.specs.Numbers.{number_of};

@@ -1,5 +1,7 @@
 // What the programs that replay recorded answers share: reading entries and numbers, counting, the checksum.
 // A record is a list of entries: a length in 4 bytes, little-endian, and that many bytes.
+#![tactic(auto)]
+
 ghost use Rattle.std.specs.Prelude.{◌≡◌, ◌<◌, if◌then◌else◌};
 ghost use Rattle.std.specs.Float.Ieee as Ieee;
 ghost use Rattle.std.specs.Float.{binary32};
@@ -7,7 +9,7 @@ ghost use Rattle.io.specs.Counts.{IsPrefixLen};
 ghost use Rattle.replay.specs.Record.{step_of, sum_of, byte_or0, word16_of, word32_of, word64_of, same_zero_of, same_of, start_of, ended_of, told_of};
 
 // Whether the record goes on, how many answers were right, how many there were, the bytes read and their checksum.
-#[derive(Drop)]
+#[derive(Clone, Copy)]
 pub struct Tally {
     pub more: bool,
     pub right: u64,

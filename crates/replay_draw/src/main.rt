@@ -2,6 +2,8 @@
 // An entry, in 4 bytes each: width and height; the number answered and the count; the lengths of the stages, the store, the colours
 // and the depths. Then settings, vertices and units as docs/INTERFACE.md has them; the stages; the store; the colours and the bits of
 // the depths before the call; and those after it.
+#![tactic(auto)]
+
 ghost use Rattle.std.specs.Prelude.{◌≤◌, ◌<◌};
 
 use draw::DrawAnswer;

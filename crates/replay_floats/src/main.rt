@@ -1,5 +1,7 @@
 // Replays the Rust's answers to the float helpers.
 // An entry: the helper's code, three operands by their bits (4 bytes each), whether the answer is below zero, the answer (8 bytes).
+#![tactic(auto)]
+
 use replay::Tally;
 use rounding::Whole;
 

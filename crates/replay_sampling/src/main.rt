@@ -2,6 +2,8 @@
 // An entry, in 4 bytes each: of each of eleven levels whether it is present, its place, width and height; the top level, the
 // minifying filter (0 to 5) and the magnifying one (0 nearest), the wraps in s and t (0 repeat); s, t and the four gradients; the
 // number answered and the texel. Then the store.
+#![tactic(auto)]
+
 ghost use Rattle.std.specs.Prelude.{◌<◌};
 
 use levels::{Filter, MinFilter, MipLevel, Texture, Wrap};

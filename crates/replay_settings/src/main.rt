@@ -1,3 +1,5 @@
+#![tactic(auto)]
+
 ghost use Rattle.std.specs.Prelude.{◌<◌};
 // Replays the Rust's answers to the steps of a fragment, and to the codes of comparisons and factors.
 // An entry: the step's number, two codes (4 bytes each), three colours and the answer's four floats by their bits (4 bytes each);

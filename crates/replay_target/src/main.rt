@@ -2,6 +2,8 @@
 // An entry: the call (0 colour, 1 depth, 2 export), width and height (4 bytes each), whether there is a scissor, its four numbers (sign
 // and 4 bytes each), the colour's bytes or the depth's bits, the answer, the lengths of colours, depths and output (2 bytes each); then
 // what the call may write, before which an export has the colours, and what the Rust left of it.
+#![tactic(auto)]
+
 ghost use Rattle.std.specs.Prelude.{◌≡◌, ◌%◌, ◌<◌, ◌≤◌, pos};
 
 use replay::Tally;

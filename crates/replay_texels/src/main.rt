@@ -1,6 +1,8 @@
 // Replays the Rust's answers to plain and compressed decodes and size queries.
 // An entry: operation, then in 4 bytes each width, height, format, type, bytes of data, bytes of output and the number answered,
 // then the size (8 bytes), the data, and what stands in the output afterwards.
+#![tactic(auto)]
+
 use compressed::Sized;
 use replay::Tally;
 

@@ -1,6 +1,8 @@
 // Replays calls on texture objects, answered as the Rust does and, where it has no answer, as document 01 says.
 // An entry: the call's kind (0 define, 1 patch, 2 set); five numbers (4 bytes each); the place (8); the image's length (4) and seed; the
 // store's length (4); the answer; the checksums of the record's layout and of the store after the call (4 each); the layout before it (244).
+#![tactic(auto)]
+
 ghost use Rattle.std.specs.Prelude.{◌<◌};
 
 use answers::Answer;

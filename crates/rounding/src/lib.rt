@@ -1,11 +1,13 @@
 // f32 to whole numbers: floor, ceil and round as floats, the saturating signed casts, and one more.
+#![tactic(auto)]
+
 ghost use Rattle.std.specs.Prelude.{◌≡◌, T};
 ghost use Rattle.std.specs.Float.Ieee as Ieee;
 ghost use Rattle.floats.specs.Num.{zero32};
 ghost use Rattle.rounding.specs.Rounding.{floor_of, ceil_of, round_of, number_of, next_of};
 
 // A whole number: n, or -1 - n where it is below zero.
-#[derive(Drop)]
+#[derive(Clone, Copy)]
 pub struct Whole {
     pub below: bool,
     pub n: u64,

@@ -1,4 +1,6 @@
 // The cases of document 01 that are run: a line for each, with what it answered. One module for each group of operations.
+#![tactic(auto)]
+
 mod decode;
 mod lines;
 mod target;

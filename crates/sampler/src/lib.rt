@@ -1,4 +1,6 @@
 // Samples of a texture: nearest, linear, and mixed between two levels.
+#![tactic(auto)]
+
 ghost use Rattle.std.specs.Prelude.{◌≡◌, true, ◌+◌, ◌*◌, ◌≤◌, ◌<◌, length, get_or};
 ghost use Rattle.levels.specs.Levels.{level_at, Fits, valid_of};
 ghost use Rattle.mipmaps.specs.Mipmaps.{Within};
@@ -12,7 +14,7 @@ use levels::{Filter, MipLevel, Texture, Wrap};
 use mipmaps::{Chosen, Coordinates};
 
 // Red, green, blue and alpha.
-#[derive(Drop)]
+#[derive(Clone, Copy)]
 pub struct Texel {
     pub r: u8,
     pub g: u8,
@@ -21,12 +23,12 @@ pub struct Texel {
 }
 
 // What a sample gives.
-#[derive(Drop)]
+#[derive(Clone, Copy)]
 pub struct Sampled {
     pub texel: Texel,
 }
 
-#[derive(Drop)]
+#[derive(Clone, Copy)]
 pub enum SampleAnswer {
     Sampled(Sampled),
     Refused(Refusal),

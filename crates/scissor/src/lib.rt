@@ -1,4 +1,6 @@
 // The scissor box cut to a render target (raster.rs, RenderTarget::scissor_bounds), and the checks on targets and boxes.
+#![tactic(auto)]
+
 ghost use Rattle.std.specs.Prelude.{◌≡◌, ◌-◌, min, ℤ, ◌+ℤ◌};
 ghost use Rattle.scissor.specs.Scissor.{from_zero, box_of, cut_of, bounds_of};
 ghost use Rattle.scissor.specs.Check.{target_fits, number_fits, numbers_fit, scissor_fits};
@@ -6,7 +8,7 @@ ghost use Rattle.scissor.specs.Check.{target_fits, number_fits, numbers_fit, sci
 use settings::{PipelineState, Scissor};
 
 // Columns x0 to x1 and rows y0 to y1 of a target, rows from the top, the ends left out.
-#[derive(Drop)]
+#[derive(Clone, Copy)]
 pub enum Bounds {
     Empty,
     Box { x0: u32, y0: u32, x1: u32, y1: u32 },

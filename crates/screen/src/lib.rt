@@ -1,4 +1,6 @@
 // A triangle's corners on the screen: perspective divide, viewport and depth range; its signed area, facing and culling.
+#![tactic(auto)]
+
 ghost use Rattle.std.specs.Prelude.{◌≡◌};
 ghost use Rattle.screen.specs.Screen.{w_fits, ndc_fits, viewport_draws, view_of, x_of, y_of, z_of, corner_of};
 ghost use Rattle.screen.specs.Facing.{area_of, area_fits, front_of, discard_of};
@@ -6,7 +8,7 @@ ghost use Rattle.screen.specs.Facing.{area_of, area_fits, front_of, discard_of};
 use settings::{Cull, CullMode, DepthRange, FrontFace, Viewport};
 use vertices::Vertex;
 
-#[derive(Drop)]
+#[derive(Clone, Copy)]
 pub struct View {
     pub x: f32,
     pub y: f32,
@@ -16,7 +18,7 @@ pub struct View {
 }
 
 // A corner after the perspective divide. Its colour, texture coordinates and fog depth are the vertex's.
-#[derive(Drop)]
+#[derive(Clone, Copy)]
 pub struct ScreenVertex {
     pub x: f32,
     pub y: f32,
@@ -25,7 +27,7 @@ pub struct ScreenVertex {
 }
 
 // A corner that can be divided, or none: its triangle then draws nothing.
-#[derive(Drop)]
+#[derive(Clone, Copy)]
 pub enum Corner {
     Kept(ScreenVertex),
     Nothing,

@@ -1,4 +1,6 @@
 // The settings of a draw (raster.rs): comparisons, blend factors, modes, the scissor box, and all of them together by value.
+#![tactic(auto)]
+
 ghost use Rattle.std.specs.Prelude.{◌≡◌};
 ghost use Rattle.settings.specs.Settings.{read_compare, read_factor, compare_number, factor_number, default_state};
 ghost use Rattle.settings.specs.Compare.{test_of};
@@ -13,7 +15,7 @@ use consts::{
 };
 
 // Comparison of the depth and alpha tests.
-#[derive(Drop)]
+#[derive(Clone, Copy)]
 pub enum CompareFunc {
     Never,
     Less,
@@ -26,7 +28,7 @@ pub enum CompareFunc {
 }
 
 // What a comparison's code stands for.
-#[derive(Drop)]
+#[derive(Clone, Copy)]
 pub enum ReadCompare {
     Is(CompareFunc),
     Refused(Refusal),
@@ -78,7 +80,7 @@ impl CompareFunc {
 }
 
 // Source or destination blend factor.
-#[derive(Drop)]
+#[derive(Clone, Copy)]
 pub enum BlendFactor {
     Zero,
     One,
@@ -94,7 +96,7 @@ pub enum BlendFactor {
 }
 
 // What a blend factor's code stands for.
-#[derive(Drop)]
+#[derive(Clone, Copy)]
 pub enum ReadFactor {
     Is(BlendFactor),
     Refused(Refusal),
@@ -187,7 +189,7 @@ fn saturated(src: f32, dst: f32) -> Rgba
     }
 }
 
-#[derive(Drop)]
+#[derive(Clone, Copy)]
 pub enum CullMode {
     Front,
     Back,
@@ -195,20 +197,20 @@ pub enum CullMode {
 }
 
 // Which faces are discarded, if any.
-#[derive(Drop)]
+#[derive(Clone, Copy)]
 pub enum Cull {
     Off,
     Discard(CullMode),
 }
 
-#[derive(Drop)]
+#[derive(Clone, Copy)]
 pub enum FrontFace {
     Cw,
     Ccw,
 }
 
 // How a texture's colour combines with the fragment's.
-#[derive(Drop)]
+#[derive(Clone, Copy)]
 pub enum TexEnvMode {
     Modulate,
     Replace,
@@ -217,7 +219,7 @@ pub enum TexEnvMode {
     Add,
 }
 
-#[derive(Drop)]
+#[derive(Clone, Copy)]
 pub enum FogMode {
     Linear,
     Exp,
@@ -225,7 +227,7 @@ pub enum FogMode {
 }
 
 // A colour of the pixel's way: straight, and in 0 to 1 where nothing else is said.
-#[derive(Drop)]
+#[derive(Clone, Copy)]
 pub struct Rgba {
     pub r: f32,
     pub g: f32,
@@ -234,7 +236,7 @@ pub struct Rgba {
 }
 
 // Which channels a draw writes.
-#[derive(Drop)]
+#[derive(Clone, Copy)]
 pub struct ColorMask {
     pub r: bool,
     pub g: bool,
@@ -242,7 +244,7 @@ pub struct ColorMask {
     pub a: bool,
 }
 
-#[derive(Drop)]
+#[derive(Clone, Copy)]
 pub struct Viewport {
     pub x: i32,
     pub y: i32,
@@ -250,14 +252,14 @@ pub struct Viewport {
     pub height: i32,
 }
 
-#[derive(Drop)]
+#[derive(Clone, Copy)]
 pub struct DepthRange {
     pub near: f32,
     pub far: f32,
 }
 
 // A box with its corner x, y at the bottom left, as OpenGL counts.
-#[derive(Drop)]
+#[derive(Clone, Copy)]
 pub struct ScissorBox {
     pub x: i32,
     pub y: i32,
@@ -266,14 +268,14 @@ pub struct ScissorBox {
 }
 
 // Where a clear or a draw may write: the whole target, or a box of it.
-#[derive(Drop)]
+#[derive(Clone, Copy)]
 pub enum Scissor {
     Whole,
     Within(ScissorBox),
 }
 
 // One enabled texture unit.
-#[derive(Drop)]
+#[derive(Clone, Copy)]
 pub struct TextureStage {
     pub unit: u32,
     pub env: TexEnvMode,
@@ -281,7 +283,7 @@ pub struct TextureStage {
 }
 
 // All that the fragments of a draw need.
-#[derive(Drop)]
+#[derive(Clone, Copy)]
 pub struct PipelineState {
     pub viewport: Viewport,
     pub depth_range: DepthRange,

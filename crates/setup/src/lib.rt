@@ -1,4 +1,6 @@
 // One triangle left by clipping, made ready to fill: its corners on the screen, 1/area, and the pixels that it can cover.
+#![tactic(auto)]
+
 ghost use Rattle.std.specs.Prelude.{◌≡◌, max, min};
 ghost use Rattle.rounding.specs.Rounding.{number_of};
 ghost use Rattle.scissor.specs.Scissor.{from_zero, box_of};
@@ -12,7 +14,7 @@ use settings::{Cull, DepthRange, FrontFace};
 use vertices::Vertex;
 
 // Columns x0 to x1 and rows y0 to y1, rows from the top, the ends left out.
-#[derive(Drop)]
+#[derive(Clone, Copy)]
 pub struct PixelBox {
     pub x0: u32,
     pub y0: u32,
@@ -20,7 +22,7 @@ pub struct PixelBox {
     pub y1: u32,
 }
 
-#[derive(Drop)]
+#[derive(Clone, Copy)]
 pub struct Raster {
     pub a: ScreenVertex,
     pub b: ScreenVertex,
@@ -29,7 +31,7 @@ pub struct Raster {
     pub pixels: PixelBox,
 }
 
-#[derive(Drop)]
+#[derive(Clone, Copy)]
 pub enum Setup {
     Nothing,
     Draws(Raster),

@@ -1,4 +1,6 @@
 // The texture stages of a fragment, in order (raster.rs, raster_clipped): coordinates, sample, environment.
+#![tactic(auto)]
+
 ghost use Rattle.std.specs.Prelude.{◌≡◌, true, ◌+◌, ◌<◌, length};
 ghost use Rattle.levels.specs.Levels.{valid_of};
 ghost use Rattle.detail.specs.Steps.{Thresholds};

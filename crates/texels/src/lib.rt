@@ -1,4 +1,6 @@
 // Texels of bytes and packed texels, decoded to red, green, blue and alpha, a byte each (texture.rs, decode_to_rgba).
+#![tactic(auto)]
+
 ghost use Rattle.std.specs.Prelude.{◌≡◌, ◌+◌, ◌*◌, ◌≤◌, ◌<◌, length};
 ghost use Rattle.std.proofs.Math.Seq.{paste};
 ghost use Rattle.lists.specs.Lists.{flat};
@@ -10,7 +12,7 @@ use answers::{Answer, Refusal};
 use consts::*;
 
 // How the bytes of one texel are read.
-#[derive(Drop)]
+#[derive(Clone, Copy)]
 pub enum Texel {
     Alpha,
     Luminance,
@@ -23,7 +25,7 @@ pub enum Texel {
 }
 
 // What a pair of format and type codes stands for.
-#[derive(Drop)]
+#[derive(Clone, Copy)]
 pub enum Format {
     Known(Texel),
     Unknown,

@@ -1,4 +1,6 @@
 // Texture objects: define_level, patch_level and set_parameter of texture.rs, over a record by value and a lent texel store.
+#![tactic(auto)]
+
 ghost use Rattle.std.specs.Prelude.{◌≡◌, true, cond, ◌+◌, ◌*◌, ◌≤◌, ◌<◌, length};
 ghost use Rattle.std.proofs.Math.Seq.{paste};
 ghost use Rattle.lists.specs.Lists.{all};
@@ -12,7 +14,7 @@ use answers::{Answer, Refusal};
 use levels::{Filter, MinFilter, MipLevel, Texture, Wrap};
 
 // What define_level answers, with the record as it leaves it.
-#[derive(Drop)]
+#[derive(Clone, Copy)]
 pub struct Defined {
     pub answer: Answer,
     pub texture: Texture,
@@ -336,19 +338,19 @@ pub fn patch_level(
 }
 
 // A code's value, where it has one.
-#[derive(Drop)]
+#[derive(Clone, Copy)]
 pub enum MinFilterCode {
     Known(MinFilter),
     Unknown,
 }
 
-#[derive(Drop)]
+#[derive(Clone, Copy)]
 pub enum FilterCode {
     Known(Filter),
     Unknown,
 }
 
-#[derive(Drop)]
+#[derive(Clone, Copy)]
 pub enum WrapCode {
     Known(Wrap),
     Unknown,
@@ -421,7 +423,7 @@ fn is_ignored(pname: u32) -> bool
 }
 
 // What set_parameter answers, with the record as it leaves it.
-#[derive(Drop)]
+#[derive(Clone, Copy)]
 pub struct ParameterSet {
     pub answer: Answer,
     pub texture: Texture,

@@ -1,8 +1,10 @@
 // A vertex in clip space: its seventeen floats, its distances to the seven clip planes, and the vertex between two.
+#![tactic(auto)]
+
 ghost use Rattle.std.specs.Prelude.{◌≡◌};
 ghost use Rattle.vertices.specs.Vertex.{new_vertex, mix_of, mix4, mix8, lerp, distance, inside, inside_frustum};
 
-#[derive(Drop)]
+#[derive(Clone, Copy)]
 pub struct Vertex {
     // Clip-space position, w not yet divided out.
     pub pos: [f32; 4],
