@@ -1,0 +1,20 @@
+use mathlib.Core.Path.{◌≡◌, refl, ◌∙◌}
+use Rattle.block_images.specs.Walk.{blocks_over, put_row, put_rows}
+use Prim.Native.Nat.{◌-◌, ◌≤◌, ◌<◌}
+use native.Mathlib.Omega.{arith}
+use borrow.Author.Rules.{rules}
+use lib.ListN.{length}
+use Rattle.lists.specs.Lists.{iter}
+use Rattle.lists.proofs.Turns.{iter_none, iter_more}
+use Rattle.blocks.specs.Blocks.{block_bytes, block_texel}
+use Rattle.block_images.proofs.Walks.{row_of_blocks_in}
+use Rattle.block_images.proofs.decode_rows.Given as goal
+
+abbrev pub invariant-loop-by : goal.invariant-loop-by
+invariant-loop-by l =
+    (l.by ≤ l.initial.out)
+    × (length l.out ≡ length l.w)
+    × (l.out ≡ iter l.by (put_row (block_texel l.b) (block_bytes l.b) l.h l.bh l.s) l.w)
+
+abbrev pub decreases-loop-by : goal.decreases-loop-by
+decreases-loop-by l = l.initial.out - l.by

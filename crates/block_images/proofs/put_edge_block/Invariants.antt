@@ -1,0 +1,17 @@
+use mathlib.Core.Path.{◌≡◌, refl, sym, ◌∙◌}
+use Rattle.block_images.specs.Walk.{put_nth, put_block}
+use Prim.Native.Nat.{◌-◌, ◌≤◌}
+use native.Mathlib.Omega.{arith}
+use borrow.Author.Rules.{rules}
+use lib.ListN.{length}
+use Rattle.lists.specs.Lists.{iter}
+use Rattle.lists.proofs.Turns.{iter_none, iter_more}
+use Rattle.blocks.specs.Blocks.{texel_from}
+use Rattle.block_images.proofs.put_edge_block.Given as goal
+
+abbrev pub invariant-loop-i : goal.invariant-loop-i
+invariant-loop-i l =
+    (l.i ≤ 16) × (length l.out ≡ length l.w) × (l.out ≡ iter l.i (put_nth l.h l.bx (texel_from l.alpha l.initial.out) l.by l.rgb) l.w)
+
+abbrev pub decreases-loop-i : goal.decreases-loop-i
+decreases-loop-i l = 16 - l.i

@@ -1,0 +1,8 @@
+use mathlib.Core.Path.{refl}
+use Rattle.channels.specs.Channel.{unit_of}
+use borrow.Author.Rules.{rules}
+use Rattle.channels.proofs.to_unit.Goals as goal
+
+pub returns : goal.returns
+unfolding unit_of
+returns c = refl

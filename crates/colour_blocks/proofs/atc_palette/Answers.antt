@@ -1,0 +1,12 @@
+use borrow.Author.Tests.{lt-ltb, le-ltb}
+use Rattle.colour_blocks.specs.ColourBlocks.{atc_palette}
+use borrow.Author.Rules.{rules}
+use Rattle.colour_blocks.proofs.atc_palette.Goals as goal
+
+pub returns-then-c0-lt32768 : goal.returns-then-c0-lt32768
+unfolding atc_palette
+returns-then-c0-lt32768 c = simp (lt-ltb _ _ c.if-c0-lt32768.true) (cc)
+
+pub returns-else-c0-lt32768 : goal.returns-else-c0-lt32768
+unfolding atc_palette
+returns-else-c0-lt32768 c = simp (le-ltb _ _ c.if-c0-lt32768.false) (cc)

@@ -1,0 +1,23 @@
+use mathlib.Core.Path.{refl, sym}
+use native.Mathlib.Omega.{arith}
+use borrow.Author.Rules.{rules}
+use Rattle.coords.proofs.Quick.{floored_above, floored_below, small_float, minus_above}
+use Rattle.coords.proofs.floored.Goals as goal
+
+pub int_to_float-result : goal.int_to_float-result
+int_to_float-result c = small_float _ (omega (arith, c.whole_part-n.ensures.1))
+
+pub returns-then-x-2 : goal.returns-then-x-2
+returns-then-x-2 c = floored_above _ _ (record { above = c.if-x.true; below = c.if-x-2.true }) c.whole_part-n.ensures.0
+
+pub below_part-n-requires : goal.below_part-n-requires
+below_part-n-requires c = record { above = minus_above _ c.if-x-3.true; below = c.if-y.true }
+
+pub int_to_float-result-then-y : goal.int_to_float-result-then-y
+int_to_float-result-then-y c = small_float _ (omega (arith, c.below_part-n.ensures.0))
+
+pub returns-then-y : goal.returns-then-y
+returns-then-y c = floored_below _ _ _ refl c.below_part-n.ensures.1
+
+pub returns : goal.returns
+returns c = record { whole = rw (sym c.floor-low.ensures) c.saturating_i64.ensures; low = c.floor-low.ensures }

@@ -1,0 +1,20 @@
+use Rattle.std.proofs.Common.{T, sym, subst, arith, rules}
+use lib.Ieee.{of_bits, div}
+use Rattle.detail.proofs.Cut.{cut_fin, cut_inf}
+use Rattle.detail.proofs.cut_steps.Goals as goal
+
+pub steps-n-requires : goal.steps-n-requires
+unfolding of_bits div
+steps-n-requires c = (c.requires.0, (c.requires.1.0, subst T (sym c.if-q.true) tt))
+
+pub returns-then-n-most : goal.returns-then-n-most
+unfolding of_bits div
+returns-then-n-most c = let a = c.args in omega (arith, cut_fin a.q _ a.top c.if-q.true c.steps-n.ensures c.requires.1.0)
+
+pub returns-else-n-most : goal.returns-else-n-most
+unfolding of_bits div
+returns-else-n-most c = let a = c.args in omega (arith, cut_fin a.q _ a.top c.if-q.true c.steps-n.ensures c.requires.1.0)
+
+pub returns-else-q : goal.returns-else-q
+unfolding of_bits div
+returns-else-q c = cut_inf _ _ c.if-q.false c.requires.1.0

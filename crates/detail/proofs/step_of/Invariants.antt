@@ -1,0 +1,10 @@
+use Rattle.std.proofs.Common.{◌≡◌, ℕ, ◌-◌, ◌≤◌, T, sym, subst, arith}
+use Rattle.detail.specs.Steps.{Reached}
+use Rattle.detail.proofs.Fractions.{reach, stop, highest}
+use Rattle.detail.proofs.step_of.Given as goal
+
+abbrev pub invariant-loop-i : goal.invariant-loop-i
+invariant-loop-i l = (l.i ≤ 127) × Reached l.m l.i
+
+abbrev pub decreases-loop-i : goal.decreases-loop-i
+decreases-loop-i l = 127 - l.i

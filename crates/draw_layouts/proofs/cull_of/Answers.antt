@@ -1,0 +1,19 @@
+use borrow.Author.Tests.{ne_eqb}
+use Rattle.draw_layouts.specs.Codes.{cull_of}
+use Rattle.draw_layouts.proofs.cull_of.Goals as goal
+
+pub returns-in-1028 : goal.returns-in-1028
+unfolding cull_of
+returns-in-1028 c = rw c.in-1028.is
+
+pub returns-in-1029 : goal.returns-in-1029
+unfolding cull_of
+returns-in-1029 c = rw c.in-1029.is
+
+pub returns-in-1032 : goal.returns-in-1032
+unfolding cull_of
+returns-in-1032 c = rw c.in-1032.is
+
+pub returns-in_default : goal.returns-in_default
+unfolding cull_of
+returns-in_default c = rw (ne_eqb _ _ c.in_default.rest.0.0.1, ne_eqb _ _ c.in_default.rest.0.1, ne_eqb _ _ c.in_default.rest.1)

@@ -1,0 +1,15 @@
+use mathlib.Core.Path.{◌≡◌, ap, ◌∙◌}
+use Prim.Native.Nat.{ℕ, ◌+◌, ◌-◌}
+use native.Mathlib.Omega.{arith}
+use lib.ListN.{take, drop}
+use Rattle.layouts.specs.Records.{read_of}
+use Rattle.draw_layouts.specs.Units.{read_unit}
+use borrow.Author.Rules.{rules}
+use Rattle.draw_layouts.proofs.is_unit_known.Goals as goal
+
+pub returns : goal.returns
+unfolding read_unit
+returns c =
+    let a = c.args in
+    let e : a.at + 244 - a.at ≡ 244 = omega arith in
+    c.is_known.ensures ∙ ap (λ (n : ℕ). (read_of (take n (drop a.at a.b.now))).known) e

@@ -1,0 +1,25 @@
+use Prim.Native.Nat.{◌+◌, ◌-◌, ◌*◌, ◌≤◌}
+use mathlib.Core.Path.{◌≡◌, refl, sym}
+use mathlib.Core.List.{◌++◌}
+use native.Mathlib.Omega.{arith}
+use lib.ListN.{length, drop, length-set}
+use borrow.Author.Rules.{rules}
+use Rattle.lists.specs.Lists.{flat}
+use Rattle.export.specs.Export.{rgb565_at}
+use Rattle.export.proofs.Exported.{export_none, export_more}
+use Rattle.export.proofs.export_pixels.Goals as goal
+
+pub loop-p-init : goal.loop-p-init
+loop-p-init c = (export_none c.args.colors.now c.args.out.now, refl, omega arith)
+
+pub bounds-out-p-in-loop-p : goal.bounds-out-p-in-loop-p
+bounds-out-p-in-loop-p c = simp length-set (omega (arith, c.loop-p.invariant, c.loop-p-test.true, c.requires))
+
+pub loop-p-preserved : goal.loop-p-preserved
+loop-p-preserved c = (export_more c.args.colors.now c.args.out.now _ c.loop-p.p c.pixel-v.result c.loop-p.invariant.0 c.loop-p.invariant.1 (omega (arith, c.loop-p-test.true, c.requires)) c.pixel-v.ensures, simp length-set c.loop-p.invariant.1, omega (arith, c.loop-p-test.true))
+
+pub shape_of-out : goal.shape_of-out
+shape_of-out c = c.loop-p.invariant.1
+
+pub returns : goal.returns
+returns c = let end : c.loop-p.p ≡ c.args.n = omega (arith, c.loop-p.invariant, c.loop-p-test.false) in rw (sym end) c.loop-p.invariant.0

@@ -1,0 +1,13 @@
+use mathlib.Core.Path.{sym, ◌∙◌}
+use borrow.Author.Rules.{rules}
+use Rattle.layouts.proofs.is_filter.Goals as goal
+
+pub returns-in-Known : goal.returns-in-Known
+returns-in-Known c =
+    let e = sym c.filter_from_enum.ensures ∙ c.in-Known.is in
+    rw e
+
+pub returns-in-Unknown : goal.returns-in-Unknown
+returns-in-Unknown c =
+    let e = sym c.filter_from_enum.ensures ∙ c.in-Unknown.is in
+    rw e

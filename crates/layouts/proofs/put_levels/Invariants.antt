@@ -1,0 +1,17 @@
+use borrow.Author.Rules.{rules}
+use mathlib.Core.Path.{◌≡◌, refl, ◌∙◌}
+use mathlib.Core.List.{◌++◌}
+use Prim.Native.Nat.{◌-◌, ◌*◌, ◌≤◌}
+use native.Mathlib.Omega.{arith}
+use lib.ListN.{length, drop}
+use Rattle.lists.specs.Lists.{flat}
+use Rattle.lists.proofs.Rows.{flat_none, flat_more}
+use Rattle.layouts.specs.Records.{level_bytes, level_bytes_at}
+use Rattle.layouts.proofs.RoundTrip.{length_level}
+use Rattle.layouts.proofs.put_levels.Given as goal
+
+abbrev pub invariant-loop-i : goal.invariant-loop-i
+invariant-loop-i l = (l.i ≤ 11) × (length l.b ≡ length l.levels) × (l.b ≡ flat l.i (level_bytes_at l.initial.b) ++ drop (l.i * 20) l.levels)
+
+abbrev pub decreases-loop-i : goal.decreases-loop-i
+decreases-loop-i l = 11 - l.i

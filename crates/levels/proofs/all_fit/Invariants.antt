@@ -1,0 +1,16 @@
+use mathlib.Core.Path.{◌≡◌, refl, sym, ◌∙◌}
+use Prim.Native.Nat.{◌-◌, ◌≤◌}
+use native.Mathlib.Omega.{arith}
+use borrow.Author.Rules.{rules}
+use borrow.Author.Tests.{not-true, not-false}
+use lib.ListN.{drop}
+use Rattle.lists.specs.Lists.{all}
+use Rattle.lists.proofs.Search.{all_are_on, all_miss, all_end}
+use Rattle.levels.specs.Levels.{absent, fits}
+use Rattle.levels.proofs.all_fit.Given as goal
+
+abbrev pub invariant-loop-i : goal.invariant-loop-i
+invariant-loop-i l = (l.i ≤ 11) × (all (fits l.len) (drop l.i l.levels) ≡ all (fits l.len) l.levels)
+
+abbrev pub decreases-loop-i : goal.decreases-loop-i
+decreases-loop-i l = 11 - l.i

@@ -1,0 +1,16 @@
+use mathlib.Core.Path.{◌≡◌, refl, sym, ◌∙◌}
+use Prim.Native.Nat.{◌-◌, ◌≤◌}
+use native.Mathlib.Omega.{arith}
+use borrow.Author.Rules.{rules}
+use lib.ListN.{drop}
+use Rattle.lists.specs.Lists.{any}
+use Rattle.lists.proofs.Search.{any_on, any_hit, any_end}
+use Rattle.levels.specs.Levels.{absent, overlaps}
+use Rattle.levels.proofs.Valid.{fits_at}
+use Rattle.levels.proofs.any_overlap.Given as goal
+
+abbrev pub invariant-loop-i : goal.invariant-loop-i
+invariant-loop-i l = (l.i ≤ 11) × (any (overlaps l.m) (drop l.i l.levels) ≡ any (overlaps l.m) (drop l.from l.levels))
+
+abbrev pub decreases-loop-i : goal.decreases-loop-i
+decreases-loop-i l = 11 - l.i

@@ -1,0 +1,7 @@
+use native.Mathlib.Omega.{arith}
+use Rattle.levels.proofs.Valid.{levels_are}
+use borrow.Author.Rules.{rules}
+use Rattle.levels.proofs.kept_levels.Goals as goal
+
+pub returns : goal.returns
+returns c = levels_are _ (omega arith)

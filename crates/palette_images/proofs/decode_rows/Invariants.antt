@@ -1,0 +1,21 @@
+use mathlib.Core.Path.{◌≡◌, refl, ap, ◌∙◌}
+use Rattle.palette_images.specs.Paletted.{entry_at}
+use mathlib.Core.List.{◌++◌}
+use Prim.Native.Nat.{◌+◌, ◌-◌, ◌*◌, ◌≤◌}
+use native.Mathlib.Omega.{arith}
+use borrow.Author.Rules.{rules}
+use lib.ListN.{length, drop}
+use Rattle.lists.specs.Lists.{flat}
+use Rattle.lists.proofs.Rows.{length_flat, flat_none, flat_more, flat_all, row_in}
+use Rattle.texels.specs.Image.{image}
+use Rattle.palette_images.proofs.Indices.{width_le, entry_four}
+use Rattle.palette_images.proofs.decode_rows.Given as goal
+
+abbrev pub invariant-loop-y : goal.invariant-loop-y
+invariant-loop-y l =
+    (l.y ≤ l.row)
+    × (length l.out ≡ length l.w)
+    × (l.out ≡ flat l.y (λ j. flat l.h (entry_at l.bits l.table l.s (l.start + j * l.initial.out))) ++ drop (l.y * (l.h * 4)) l.w)
+
+abbrev pub decreases-loop-y : goal.decreases-loop-y
+decreases-loop-y l = l.row - l.y

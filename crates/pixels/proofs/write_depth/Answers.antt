@@ -1,0 +1,14 @@
+use lib.Seq.{set-get_or}
+use mathlib.Core.Path.{sym}
+use Rattle.frames.specs.State.{pixel_at}
+use Rattle.pixels.specs.Way.{written_of}
+use borrow.Author.Rules.{rules}
+use Rattle.pixels.proofs.write_depth.Goals as goal
+
+pub returns-then-state : goal.returns-then-state
+unfolding written_of pixel_at
+returns-then-state c = rw c.if-state.true
+
+pub returns-else-state : goal.returns-else-state
+unfolding written_of pixel_at
+returns-else-state c = rw c.if-state.false (sym (set-get_or _ _ _))

@@ -1,0 +1,14 @@
+use mathlib.Core.Path.{◌≡◌, sym, ◌∙◌}
+use Prim.Native.Nat.{◌≤◌, ◌-◌}
+use native.Mathlib.Omega.{arith}
+use borrow.Author.Rules.{rules}
+use lib.ListN.{length}
+use Rattle.polygon.specs.Corners.{corners_of}
+use Rattle.polygon.proofs.Corners.{corners_none, corners_more, corners_next}
+use Rattle.polygon.proofs.copy_corners.Given as goal
+
+abbrev pub invariant-loop-i : goal.invariant-loop-i
+invariant-loop-i l = (l.i ≤ l.initial.to) × (length l.to ≡ 714) × (corners_of l.i l.to ≡ corners_of l.i l.from)
+
+abbrev pub decreases-loop-i : goal.decreases-loop-i
+decreases-loop-i l = l.initial.to - l.i

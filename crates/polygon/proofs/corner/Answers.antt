@@ -1,0 +1,6 @@
+use Rattle.polygon.proofs.Corners.{at_start}
+use borrow.Author.Rules.{rules}
+use Rattle.polygon.proofs.corner.Goals as goal
+
+pub returns : goal.returns
+returns c = at_start _ _

@@ -1,0 +1,6 @@
+use mathlib.Core.Path.{◌∙◌}
+use borrow.Author.Rules.{rules}
+use Rattle.probes.proofs.probe_clip.probe_clip_triangle.Goals as goal
+
+pub returns : goal.returns
+returns c = c.clip_triangle.ensures ∙ rw (c.corner-c.ensures, c.corner2.ensures, c.corner.ensures)

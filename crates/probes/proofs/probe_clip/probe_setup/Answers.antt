@@ -1,0 +1,6 @@
+use mathlib.Core.Path.{◌∙◌}
+use borrow.Author.Rules.{rules}
+use Rattle.probes.proofs.probe_clip.probe_setup.Goals as goal
+
+pub returns : goal.returns
+returns c = c.tell.ensures ∙ rw (c.setup_from-done.ensures, c.view_from.ensures)

@@ -1,0 +1,20 @@
+use Prim.Native.Nat.{ℕ, ◌-◌}
+use mathlib.Core.List.{List}
+use lib.Ieee.{Float, nan}
+use lib.ListN.{length, get_or}
+use borrow.Author.Rules.{rules}
+use Rattle.channels.specs.Channel.{byte_of}
+use Rattle.probes.proofs.Mapped.{Mapped, mapped_none, mapped_more, mapped_all}
+use Rattle.probes.proofs.probe_floats.probe_to_bytes.Goals as goal
+
+abbrev byte_at : List Float → ℕ → ℕ
+byte_at src i = byte_of (get_or src i nan)
+
+pub loop-i-init : goal.loop-i-init
+loop-i-init c = mapped_none (byte_at c.args.src.now) c.requires
+
+pub loop-i-preserved : goal.loop-i-preserved
+loop-i-preserved c = mapped_more c.loop-i.invariant c.loop-i-test.true c.to_byte.ensures
+
+pub returns : goal.returns
+returns c = mapped_all c.loop-i.invariant c.loop-i-test.false

@@ -1,0 +1,30 @@
+use Prim.Native.Nat.{ℕ, ◌-◌}
+use mathlib.Core.Path.{refl, ◌∙◌}
+use mathlib.Core.List.{List}
+use native.Mathlib.Omega.{arith}
+use lib.Ieee.{Float}
+use lib.ListN.{length}
+use borrow.Author.Rules.{rules}
+use Rattle.levels.specs.declared.Texture.{Texture}
+use Rattle.sampler.specs.Samples.{sample_of}
+use Rattle.probes.specs.Sampling.{coordinates_from, packed}
+use Rattle.probes.proofs.Mapped.{Mapped, mapped_none, mapped_more, mapped_all}
+use Rattle.probes.proofs.probe_sampler.fill.Goals as goal
+
+abbrev sample_at : List ℕ → Texture → List Float → ℕ → ℕ
+sample_at store texture coords i = packed (sample_of store texture (coordinates_from coords i))
+
+pub loop-i-init : goal.loop-i-init
+loop-i-init c = mapped_none _ refl
+
+pub coordinates_from-requires : goal.coordinates_from-requires
+coordinates_from-requires c = omega (arith, c.requires.1.1.0, c.loop-i.invariant.kept, c.loop-i-test.true)
+
+pub packed_sample-requires : goal.packed_sample-requires
+packed_sample-requires c = (c.requires.0, (c.requires.1.0, (c.requires.1.1.1.0, c.requires.1.1.1.1)))
+
+pub loop-i-preserved : goal.loop-i-preserved
+loop-i-preserved c = mapped_more c.loop-i.invariant (omega (arith, c.loop-i.invariant.kept, c.loop-i-test.true)) (c.packed_sample.ensures ∙ rw c.coordinates_from.ensures)
+
+pub returns : goal.returns
+returns c = mapped_all c.loop-i.invariant (omega (arith, c.loop-i.invariant.kept, c.loop-i-test.false))

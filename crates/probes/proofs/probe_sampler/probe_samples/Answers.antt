@@ -1,0 +1,21 @@
+use mathlib.Core.Path.{◌∙◌, refl, sym}
+use borrow.Author.Rules.{rules}
+use borrow.Author.Tests.{not-true, not-false}
+use Rattle.lists.proofs.Choice.{yes, no}
+use Rattle.sampler.specs.Samples.{sample_check}
+use Rattle.probes.proofs.probe_sampler.probe_samples.Goals as goal
+
+pub returns-then-not-is_valid : goal.returns-then-not-is_valid
+unfolding sample_check
+returns-then-not-is_valid c =
+    let v = sym c.is_valid.ensures ∙ not-true _ c.if-not-is_valid.true-raw in
+    rw (sym c.texture_from-texture.ensures) (no _ v refl, no _ v refl)
+
+pub fill-requires : goal.fill-requires
+fill-requires c = (c.thresholds-table.ensures, (sym c.is_valid.ensures ∙ not-false _ c.if-not-is_valid.false-raw, (c.requires.1, (c.places-places.ensures, c.sides-sides.ensures))))
+
+pub returns : goal.returns
+unfolding sample_check
+returns c =
+    let v = sym c.is_valid.ensures ∙ not-false _ c.if-not-is_valid.false-raw in
+    rw (sym c.texture_from-texture.ensures) (yes _ v refl, yes _ v c.fill.ensures)

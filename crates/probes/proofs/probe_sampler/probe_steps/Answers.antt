@@ -1,0 +1,23 @@
+use Prim.Native.Nat.{ℕ, ◌-◌}
+use mathlib.Core.List.{List}
+use lib.Ieee.{Float, nan}
+use lib.ListN.{length, get_or}
+use borrow.Author.Rules.{rules}
+use Rattle.probes.specs.Sampling.{steps_from}
+use Rattle.probes.proofs.Mapped.{Mapped, mapped_none, mapped_more, mapped_all}
+use Rattle.probes.proofs.probe_sampler.probe_steps.Goals as goal
+
+abbrev steps_at : List Float → ℕ → ℕ
+steps_at src i = steps_from (get_or src i nan)
+
+pub loop-i-init : goal.loop-i-init
+loop-i-init c = mapped_none (steps_at c.args.src.now) c.requires
+
+pub steps_from-requires : goal.steps_from-requires
+steps_from-requires c = c.thresholds-table.ensures
+
+pub loop-i-preserved : goal.loop-i-preserved
+loop-i-preserved c = mapped_more c.loop-i.invariant c.loop-i-test.true c.steps_from.ensures
+
+pub returns : goal.returns
+returns c = mapped_all c.loop-i.invariant c.loop-i-test.false

@@ -1,0 +1,7 @@
+use mathlib.Core.Path.{ap, ◌∙◌}
+use Rattle.probes.specs.Settings.{factor_or}
+use borrow.Author.Rules.{rules}
+use Rattle.probes.proofs.probe_settings.factor.Goals as goal
+
+pub returns : goal.returns
+returns c = c.factor_or_zero.ensures ∙ ap factor_or c.from_enum.ensures

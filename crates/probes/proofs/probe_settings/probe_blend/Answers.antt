@@ -1,0 +1,7 @@
+use mathlib.Core.Path.{ap, ◌∙◌}
+use Rattle.probes.specs.Settings.{channels_of}
+use borrow.Author.Rules.{rules}
+use Rattle.probes.proofs.probe_settings.probe_blend.Goals as goal
+
+pub returns : goal.returns
+returns c = c.put.ensures ∙ ap channels_of (rw (c.blend.ensures, c.factor.ensures, c.factor-2.ensures, c.color.ensures, c.color-2.ensures))

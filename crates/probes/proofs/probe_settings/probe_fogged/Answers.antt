@@ -1,0 +1,9 @@
+use mathlib.Core.Path.{ap, ◌∙◌}
+use Rattle.fragment.specs.Fragment.{fogged_of, fog_factor_of}
+use Rattle.probes.specs.Settings.{channels_of}
+use borrow.Author.Rules.{rules}
+use Rattle.probes.proofs.probe_settings.probe_fogged.Goals as goal
+
+pub returns : goal.returns
+unfolding fogged_of fog_factor_of
+returns c = c.put.ensures ∙ ap channels_of (rw (c.fogged.ensures, c.color-c.ensures, c.color.ensures))

@@ -1,0 +1,5 @@
+use borrow.Author.Rules.{rules}
+use Rattle.probes.proofs.probe_settings.probe_test.Goals as goal
+
+pub returns : goal.returns
+returns c = rw (c.test.ensures, c.compare_or_never.ensures, c.from_enum.ensures)

@@ -1,0 +1,23 @@
+use borrow.Author.Rules.{rules}
+use mathlib.Core.Path.{◌≡◌, refl, sym, ◌∙◌}
+use Prim.Native.Nat.{◌+◌, ◌*◌, ◌-◌, ◌≤◌}
+use native.Mathlib.Omega.{arith}
+use lib.ListN.{length}
+use Rattle.lists.specs.Lists.{between}
+use Rattle.pixels.specs.Way.{drawing, drawn_to}
+use Rattle.clip.proofs.Fans.{fan_step}
+use Rattle.raster.specs.Fill.{raster_of}
+use Rattle.raster.proofs.Fills.{Filling, fill_more, fill_end}
+use Rattle.raster.proofs.Fans.{fan_small, corners_long, corners_few, fan_drawn}
+use Rattle.raster.proofs.draw_fan.Given as goal
+
+abbrev pub invariant-loop-i : goal.invariant-loop-i
+invariant-loop-i l =
+    Filling (fan_step (raster_of l.state (drawing l.count l.textures l.view l.within) l.width l.polygon l.corners) l.first) (l.i-end - 1)
+    (between (fan_step (raster_of l.state (drawing l.count l.textures l.view l.within) l.width l.polygon l.corners) l.first) 1 (l.i-end - 1) (drawn_to l.store l.table 0))
+    (length l.store) (length l.table) l.colors l.depths l.n l.i
+    × (l.n + 16777216 ≤ 16777216 * l.i)
+    × (l.initial.i ≡ l.i-end - 1)
+
+abbrev pub decreases-loop-i : goal.decreases-loop-i
+decreases-loop-i l = l.initial.i - l.i

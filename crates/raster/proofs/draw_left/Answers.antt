@@ -1,0 +1,15 @@
+use mathlib.Core.Path.{sym, ◌∙◌}
+use native.Mathlib.Omega.{arith}
+use Rattle.pixels.specs.Way.{drawing}
+use Rattle.raster.proofs.Fans.{whole_drawn, clipped_drawn}
+use borrow.Author.Rules.{rules}
+use Rattle.raster.proofs.draw_left.Goals as goal
+
+pub raster_clipped-requires : goal.raster_clipped-requires
+raster_clipped-requires c = (c.requires.0, (c.requires.1.0, ((omega (arith, c.requires), omega (arith, c.requires), omega (arith, c.requires), omega arith), c.requires.1.1.1)))
+
+pub returns-then-all_inside : goal.returns-then-all_inside
+returns-then-all_inside c = c.raster_clipped.ensures.0 ∙ whole_drawn _ (drawing c.args.state c.args.stages c.args.count c.args.textures) c.args.view c.args.within c.args.width c.args.a c.args.b c.args.c _ (sym c.all_inside.ensures ∙ c.if-all_inside.true)
+
+pub returns : goal.returns
+returns c = c.draw_fan.ensures ∙ clipped_drawn _ (drawing c.args.state c.args.stages c.args.count c.args.textures) c.args.view c.args.within c.args.width c.args.a c.args.b c.args.c _ (sym c.all_inside.ensures ∙ c.if-all_inside.false)

@@ -1,0 +1,28 @@
+use borrow.Author.Rules.{rules}
+use mathlib.Core.Path.{refl}
+use Prim.Native.Nat.{◌+◌, ◌-◌, ◌≤◌}
+use native.Mathlib.Omega.{arith}
+use lib.ListN.{length}
+use Rattle.pixels.specs.Way.{drawing, drawn_to, pixel_of}
+use Rattle.raster.specs.Fill.{row_of}
+use Rattle.raster.proofs.Fills.{Filling, fill_more, fill_end, pixel_count}
+use Rattle.raster.proofs.fill_row.Goals as goal
+
+pub loop-px-init : goal.loop-px-init
+unfolding row_of
+loop-px-init c = (record { rest = refl; colors_long = refl; depths_long = refl }, omega arith, omega arith)
+
+pub draw_pixel-n-requires : goal.draw_pixel-n-requires
+draw_pixel-n-requires c = (c.requires.0, (c.requires.1.0, ((omega (arith, c.requires), omega (arith, c.requires), omega (arith, c.requires), omega (arith, c.requires, c.loop-px.invariant)), (omega (arith, c.requires, c.loop-px.invariant.0.depths_long), omega (arith, c.requires, c.loop-px.invariant.0.depths_long, c.loop-px.invariant.0.colors_long)))))
+
+pub loop-px-preserved : goal.loop-px-preserved
+loop-px-preserved c = let k = pixel_count _ _ _ _ _ _ _ c.draw_pixel-n.ensures in (fill_more c.loop-px.invariant.0 c.loop-px-test.true c.draw_pixel-n.ensures c.draw_pixel-n.auto.0 c.draw_pixel-n.auto.1.0, omega (arith, k), omega (arith, k))
+
+pub shape_of-colors : goal.shape_of-colors
+shape_of-colors c = c.loop-px.invariant.0.colors_long
+
+pub shape_of-depths : goal.shape_of-depths
+shape_of-depths c = c.loop-px.invariant.0.depths_long
+
+pub returns : goal.returns
+returns c = (fill_end c.loop-px.invariant.0 c.loop-px-test.false, omega (arith, c.requires))

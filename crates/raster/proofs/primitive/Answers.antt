@@ -1,0 +1,7 @@
+use Rattle.raster.specs.Fill.{primitive_of}
+use borrow.Author.Rules.{rules}
+use Rattle.raster.proofs.primitive.Goals as goal
+
+pub returns : goal.returns
+unfolding primitive_of
+returns c = rw c.derivatives-derivatives.ensures

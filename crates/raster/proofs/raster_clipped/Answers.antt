@@ -1,0 +1,18 @@
+use mathlib.Core.Path.{sym, ◌∙◌}
+use native.Mathlib.Nat.{mul-le-mul_right}
+use native.Mathlib.Omega.{arith}
+use Rattle.pixels.specs.Way.{drawing}
+use Rattle.raster.proofs.Setups.{setup_within, nothing_drawn, filled}
+use borrow.Author.Rules.{rules}
+use Rattle.raster.proofs.raster_clipped.Goals as goal
+
+pub returns-in_default : goal.returns-in_default
+returns-in_default c = (nothing_drawn _ (drawing c.args.state c.args.stages c.args.count c.args.textures) c.args.view c.args.within c.args.width c.args.a c.args.b c.args.c _ (sym c.setup_triangle.ensures ∙ c.in_default.is), omega arith)
+
+pub fill-requires : goal.fill-requires
+fill-requires c =
+    let w = setup_within _ _ _ _ c.args.within _ _ _ (sym c.setup_triangle.ensures ∙ c.in-Draws.is) in
+    (c.requires.0, (c.requires.1.0, ((omega (arith, c.requires, w.x_to), omega (arith, c.requires, w.y_to), omega (arith, c.requires), omega (arith, c.requires)), (omega (arith, c.requires, mul-le-mul_right c.args.width w.y_to), omega (arith, c.requires)))))
+
+pub returns : goal.returns
+returns c = (c.fill.ensures.0 ∙ rw c.primitive-t.ensures (filled _ (drawing c.args.state c.args.stages c.args.count c.args.textures) c.args.view c.args.within c.args.width c.args.a c.args.b c.args.c _ (sym c.setup_triangle.ensures ∙ c.in-Draws.is)), c.fill.ensures.1)

@@ -1,0 +1,15 @@
+use Prim.Native.Nat.{◌-◌}
+use mathlib.Core.Path.{refl}
+use native.Mathlib.Omega.{arith}
+use lib.ListN.{length}
+use borrow.Author.Rules.{rules}
+use Rattle.render_target.specs.Clear.{rows_of, color_at}
+use Rattle.render_target.proofs.Rowwise.{Rowing, row_more, rows_end, row_within}
+use Rattle.render_target.proofs.clear_color_rows.Given as goal
+
+abbrev pub invariant-loop-y : goal.invariant-loop-y
+invariant-loop-y l =
+    Rowing 4 (color_at l.initial.colors) 0 l.x0 l.y0 l.y1 l.rgba (rows_of 4 (color_at l.initial.colors) 0 l.x0 l.y0 l.x1 l.y1 l.rgba l.width) (length l.width) l.colors l.y
+
+abbrev pub decreases-loop-y : goal.decreases-loop-y
+decreases-loop-y l = l.rgba - l.y

@@ -1,0 +1,16 @@
+use Prim.Native.Nat.{◌-◌}
+use mathlib.Core.Path.{refl, ◌∙◌}
+use native.Mathlib.Omega.{arith}
+use lib.Ieee.{nan}
+use lib.ListN.{length}
+use borrow.Author.Rules.{rules}
+use Rattle.render_target.specs.Clear.{rows_of}
+use Rattle.render_target.proofs.Rowwise.{Rowing, row_more, rows_end, row_of_ones, row_within}
+use Rattle.render_target.proofs.clear_depth_rows.Given as goal
+
+abbrev pub invariant-loop-y : goal.invariant-loop-y
+invariant-loop-y l =
+    Rowing 1 (λ n. l.initial.depths) nan l.x0 l.y0 l.y1 l.value (rows_of 1 (λ n. l.initial.depths) nan l.x0 l.y0 l.x1 l.y1 l.value l.width) (length l.width) l.depths l.y
+
+abbrev pub decreases-loop-y : goal.decreases-loop-y
+decreases-loop-y l = l.value - l.y

@@ -1,0 +1,16 @@
+use Prim.Native.Nat.{◌-◌, ◌*◌, ◌≤◌}
+use mathlib.Core.Path.{◌≡◌, refl, sym}
+use native.Mathlib.Nat.{le_refl}
+use native.Mathlib.Omega.{arith}
+use lib.ListN.{length, length-set}
+use borrow.Author.Rules.{rules}
+use Rattle.render_target.specs.Clear.{span_of, color_at}
+use Rattle.render_target.proofs.Spans.{span_none, pixel_more}
+use Rattle.render_target.proofs.fill_colors.Given as goal
+
+abbrev pub invariant-loop-p : goal.invariant-loop-p
+invariant-loop-p l =
+    (l.colors ≡ span_of (color_at l.initial.colors) 0 (l.to * 4) (l.p * 4) l.from) × (length l.colors ≡ length l.from) × (l.to ≤ l.p) × (l.p ≤ l.rgba)
+
+abbrev pub decreases-loop-p : goal.decreases-loop-p
+decreases-loop-p l = l.rgba - l.p

@@ -1,0 +1,11 @@
+use Prim.Native.Nat.{◌-◌}
+use mathlib.Core.Path.{◌≡◌, refl}
+use lib.ListN.{length, length-set}
+use borrow.Author.Rules.{rules}
+use Rattle.replay_draw.proofs.load_floats.Given as goal
+
+abbrev pub invariant-loop-i : goal.invariant-loop-i
+invariant-loop-i l = (l.initial.i ≡ length l.entry) × (length l.out ≡ length l.entry)
+
+abbrev pub decreases-loop-i : goal.decreases-loop-i
+decreases-loop-i l = l.initial.i - l.i

@@ -1,0 +1,25 @@
+use Rattle.std.proofs.Common.{T, sym, subst, ⊎_elim}
+use lib.Ieee.{of_bits}
+use Rattle.lists.proofs.Choice.{yes, no}
+use Rattle.rounding.proofs.Floors.{above_near, floor_above, below_near, floor_below, floor_zero}
+use Rattle.rounding.proofs.floor.Goals as goal
+
+pub returns-then-x-2 : goal.returns-then-x-2
+unfolding of_bits
+returns-then-x-2 c = above_near _ _ c.if-x.true c.if-x-2.true (⊎_elim (λ w. yes _ w.0.taken w.1) (λ w. no _ w.0.left w.1) c.if-near-x.branch)
+
+pub returns-then-x : goal.returns-then-x
+unfolding of_bits
+returns-then-x c = floor_above _ (subst T (sym c.well_formed.0.1) tt) c.if-x.true c.if-x-2.false
+
+pub returns-then-y : goal.returns-then-y
+unfolding of_bits
+returns-then-y c = below_near _ _ c.if-x-3.true c.if-y.true (⊎_elim (λ w. yes _ w.0.taken w.1) (λ w. no _ w.0.left w.1) c.if-near-y.branch)
+
+pub returns-else-y : goal.returns-else-y
+unfolding of_bits
+returns-else-y c = floor_below _ (subst T (sym c.well_formed.0.1) tt) c.if-x-3.true c.if-y.false
+
+pub returns-else-x-3 : goal.returns-else-x-3
+unfolding of_bits
+returns-else-x-3 c = floor_zero _ (subst T (sym c.well_formed.0.1) tt) c.if-x.false c.if-x-3.false

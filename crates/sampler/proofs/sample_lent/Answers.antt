@@ -1,0 +1,30 @@
+use mathlib.Core.Path.{◌∙◌}
+use borrow.Author.Rules.{rules}
+use Rattle.levels.specs.Levels.{level_of, levels_of}
+use Rattle.mipmaps.proofs.Choices.{chosen_within}
+use Rattle.sampler.specs.Addresses.{levels_for}
+use Rattle.sampler.proofs.Records.{no_width, no_height, both_sides, readable}
+use Rattle.sampler.proofs.Chosen.{incomplete, complete_sample}
+use Rattle.sampler.proofs.sample_lent.Goals as goal
+
+pub returns-then-first-eq0 : goal.returns-then-first-eq0
+returns-then-first-eq0 c = c.white_texel.ensures ∙ incomplete _ c.args.texture _ (no_width c.args.texture c.if-first-eq0.true)
+
+pub returns-then-first-eq0-2 : goal.returns-then-first-eq0-2
+returns-then-first-eq0-2 c = c.white_texel-then-first-eq0-2.ensures ∙ incomplete _ c.args.texture _ (no_height c.args.texture c.if-first-eq0-2.true)
+
+pub chosen_levels-chosen-requires : goal.chosen_levels-chosen-requires
+chosen_levels-chosen-requires c =
+    let x = c.args.texture in
+    (c.requires.0, (readable _ x c.requires.1.0 (both_sides x c.if-first-eq0.false c.if-first-eq0-2.false) c.eleven.ensures).few)
+
+pub sample_chosen-requires : goal.sample_chosen-requires
+sample_chosen-requires c =
+    let x = c.args.texture in
+    (readable _ x c.requires.1.0 (both_sides x c.if-first-eq0.false c.if-first-eq0-2.false) c.eleven.ensures, (rw c.chosen_levels-chosen.ensures (chosen_within _ _ _ _ _ _), (c.requires.1.1.0, c.requires.1.1.1)))
+
+pub returns : goal.returns
+unfolding levels_for level_of levels_of
+returns c =
+    let x = c.args.texture in
+    c.sample_chosen.ensures ∙ complete_sample _ x c.args.p (both_sides x c.if-first-eq0.false c.if-first-eq0-2.false) _ c.chosen_levels-chosen.ensures

@@ -1,0 +1,5 @@
+use borrow.Author.Rules.{rules}
+use Rattle.settings.proofs.saturated.Goals as goal
+
+pub returns : goal.returns
+returns c = rw c.min-f.ensures

@@ -1,0 +1,14 @@
+use borrow.Author.Rules.{rules}
+use mathlib.Core.Path.{◌≡◌, ◌∙◌}
+use Prim.Native.Nat.{◌≤◌, ◌-◌}
+use native.Mathlib.Omega.{arith}
+use Rattle.lists.specs.Lists.{iter}
+use Rattle.lists.proofs.Turns.{iter_none, iter_more}
+use Rattle.stages.specs.Stages.{stage_step, stages_color}
+use Rattle.stages.proofs.stages_color.Given as goal
+
+abbrev pub invariant-loop-i : goal.invariant-loop-i
+invariant-loop-i l = (l.i ≤ l.count) × (l.color ≡ iter l.i (stage_step l.store l.stages l.textures l.t l.w l.rec) l.initial.color)
+
+abbrev pub decreases-loop-i : goal.decreases-loop-i
+decreases-loop-i l = l.count - l.i

@@ -1,0 +1,16 @@
+use borrow.Author.Rules.{rules}
+use mathlib.Core.Path.{◌≡◌, refl, ◌∙◌}
+use Prim.Native.Nat.{◌*◌, ◌-◌, ◌≤◌}
+use native.Mathlib.Omega.{arith}
+use lib.ListN.{length}
+use Rattle.lists.specs.Lists.{iter}
+use Rattle.lists.proofs.Rows.{row_in}
+use Rattle.lists.proofs.Turns.{iter_none, iter_more}
+use Rattle.texture.specs.Patch.{patch_row, patch_store}
+use Rattle.texture.proofs.patch_rows.Given as goal
+
+abbrev pub invariant-loop-r : goal.invariant-loop-r
+invariant-loop-r l = (l.r ≤ l.patch) × (length l.store ≡ length l.m) × (l.store ≡ iter l.r (patch_row l.x l.y l.width l.height l.initial.store) l.m)
+
+abbrev pub decreases-loop-r : goal.decreases-loop-r
+decreases-loop-r l = l.patch - l.r

@@ -1,0 +1,13 @@
+use mathlib.Core.Path.{refl, sym, ◌∙◌}
+use borrow.Author.Rules.{rules}
+use Rattle.texture.proofs.set_mag_filter.Goals as goal
+
+pub returns-in-Known : goal.returns-in-Known
+returns-in-Known c =
+    let e = sym c.filter_from_enum.ensures ∙ c.in-Known.is in
+    rw e (refl, refl)
+
+pub returns-in-Unknown : goal.returns-in-Unknown
+returns-in-Unknown c =
+    let e = sym c.filter_from_enum.ensures ∙ c.in-Unknown.is in
+    rw e c.refuse_code.ensures

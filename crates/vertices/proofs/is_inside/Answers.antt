@@ -1,0 +1,7 @@
+use Rattle.vertices.specs.Vertex.{inside}
+use borrow.Author.Rules.{rules}
+use Rattle.vertices.proofs.is_inside.Goals as goal
+
+pub returns : goal.returns
+unfolding inside
+returns c = rw c.clip_distance.ensures
