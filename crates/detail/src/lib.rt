@@ -205,9 +205,9 @@ fn guess(k: u64) -> usize
 // Where to begin: the guess, if m reaches its threshold.
 fn start(t: &[f64; 128], m: f64, k: u64) -> usize
     requires thresholds { Thresholds t.now }
-    requires t_1 { T (positive m) }
-    requires t_2 { den m ≤ num m }
-    requires t_3 { k < 4096 }
+    requires positive { T (positive m) }
+    requires at_least_one { den m ≤ num m }
+    requires exponent { k < 4096 }
     ensures { (result < 128) × Reached m result }
 {
     let i = guess(k);
@@ -220,10 +220,10 @@ fn start(t: &[f64; 128], m: f64, k: u64) -> usize
 // The largest i with 2^i <= m^128, for a significand m of 1 to 2.
 fn step_of(t: &[f64; 128], m: f64, k: u64) -> usize
     requires thresholds { Thresholds t.now }
-    requires t_1 { T (positive m) }
-    requires t_2 { den m ≤ num m }
-    requires t_3 { num m < 2 * den m }
-    requires t_4 { k < 4096 }
+    requires positive { T (positive m) }
+    requires at_least_one { den m ≤ num m }
+    requires below_two { num m < 2 * den m }
+    requires exponent { k < 4096 }
     ensures { (result < 128) × Largest m result }
 {
     let mut i = start(t, m, k);
@@ -239,8 +239,8 @@ fn step_of(t: &[f64; 128], m: f64, k: u64) -> usize
 // The largest whole number n with 2^n <= q^128.
 pub fn steps(t: &[f64; 128], q: f64) -> u64
     requires thresholds { Thresholds t.now }
-    requires t_1 { T (Ieee.lt (fin false 1 (pos 0)) q) }
-    requires t_2 { T (Ieee.lt q (inf false)) }
+    requires above_one { T (Ieee.lt (fin false 1 (pos 0)) q) }
+    requires finite { T (Ieee.lt q (inf false)) }
     ensures { result ≡ steps_of q }
 {
     let bits = f64::to_bits(q);
@@ -253,8 +253,8 @@ pub fn steps(t: &[f64; 128], q: f64) -> u64
 // n for a q above 1, cut to 256 times the top level.
 pub fn cut_steps(t: &[f64; 128], q: f64, top: u64) -> u64
     requires thresholds { Thresholds t.now }
-    requires t_1 { T (Ieee.lt (fin false 1 (pos 0)) q) }
-    requires t_2 { top ≤ 10 }
+    requires above_one { T (Ieee.lt (fin false 1 (pos 0)) q) }
+    requires top_in { top ≤ 10 }
     ensures { result ≡ cut_of q top }
 {
     let most = 256 * top;

@@ -65,7 +65,7 @@ fn draw_checked(
     b: Vertex,
     c: Vertex,
 ) -> usize
-    requires depths_value { target_fits width height (length colors.old) (length depths.old) ≡ true }
+    requires target { target_fits width height (length colors.old) (length depths.old) ≡ true }
     requires stages_fit { StagesFit (length store.now) count stages textures }
     ensures { drawn_to colors.new depths.new result ≡ drawn_of store.now (drawing state stages count textures) width height a b c (drawn_to colors.old depths.old 0) }
 {

@@ -69,7 +69,7 @@ pub fn to_rgb565(
     height: u32,
     out: &mut [u8],
 ) -> Answer
-    ensures result_value { number_of result ≡ export_check width height (length colors.now) depths_len }
+    ensures answer { number_of result ≡ export_check width height (length colors.now) depths_len }
     ensures out_after { out.new ≡ rgb565_of width height depths_len colors.now out.old }
 {
     if !scissor::target_fits(width, height, colors.len(), depths_len) {

@@ -149,8 +149,8 @@ fn mipmapped(
     filter: Filter,
     mag: Filter,
 ) -> Chosen
-    requires fact_1 { Thresholds table.now }
-    requires fact_2 { top ≤ 10 }
+    requires thresholds { Thresholds table.now }
+    requires top_in { top ≤ 10 }
     ensures { result ≡ cond (above_one q) (minified mode filter (cut_of q top)) (Chosen.One 0 mag) }
 {
     if q > 1.0 {
@@ -171,8 +171,8 @@ pub fn chosen_levels(
     mag: Filter,
     p: Coordinates,
 ) -> Chosen
-    requires fact_1 { Thresholds table.now }
-    requires fact_2 { top ≤ 10 }
+    requires thresholds { Thresholds table.now }
+    requires top_in { top ≤ 10 }
     ensures { result ≡ chosen_of width height top min mag p }
 {
     let filter = texel_filter(min);

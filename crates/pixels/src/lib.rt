@@ -57,8 +57,8 @@ pub fn fragment_at(
     w: PerCorner,
     stored: f32,
 ) -> Fragment
-    requires fact_1 { Thresholds table.now }
-    requires fact_2 { StagesFit (length store.now) count stages textures }
+    requires thresholds { Thresholds table.now }
+    requires stages_fit { StagesFit (length store.now) count stages textures }
     ensures { result ≡ fragment_of store.now (drawing state stages count textures) t w stored }
 {
     let z = coverage::depth_at(t.raster, w);
@@ -144,10 +144,10 @@ pub fn draw_pixel(
     px: u32,
     written: usize,
 ) -> usize
-    requires thresholds_1 { Thresholds table.now }
-    requires thresholds_2 { StagesFit (length store.now) count stages textures }
-    requires px_bound { (px < 4096) × (py < 4096) × (width ≤ 4096) × (written ≤ 1000000000000) }
-    requires px_in_bounds { (py * width + px < length depths.old) × (length colors.old ≡ 4 * length depths.old) }
+    requires thresholds { Thresholds table.now }
+    requires stages_fit { StagesFit (length store.now) count stages textures }
+    requires bounds { (px < 4096) × (py < 4096) × (width ≤ 4096) × (written ≤ 1000000000000) }
+    requires lengths { (py * width + px < length depths.old) × (length colors.old ≡ 4 * length depths.old) }
     ensures { drawn_to colors.new depths.new result ≡ pixel_of store.now (drawing state stages count textures) t width py px (drawn_to colors.old depths.old written) }
 {
     let w = coverage::weights_at(t.raster, px, py);

@@ -76,8 +76,8 @@ pub fn draw_pixel(
     px: u32,
     written: usize,
 ) -> usize
-    requires px_bound { (px < 4096) × (py < 4096) × (width ≤ 4096) × (written ≤ 1000000000000) }
-    requires px_in_bounds { (py * width + px < length depths.old) × (length colors.old ≡ 4 * length depths.old) }
+    requires bounds { (px < 4096) × (py < 4096) × (width ≤ 4096) × (written ≤ 1000000000000) }
+    requires lengths { (py * width + px < length depths.old) × (length colors.old ≡ 4 * length depths.old) }
     ensures { drawn_to colors.new depths.new result ≡ pixel_of [] (drawing state [] 0 []) t width py px (drawn_to colors.old depths.old written) }
 {
     let w = coverage::weights_at(t.raster, px, py);

@@ -82,9 +82,9 @@ pub fn draw_pixel(
     px: u32,
     written: usize,
 ) -> usize
-    requires state_value { (solid_of state ≡ true) × (color ≡ solid_color t) }
-    requires px_bound { (px < 4096) × (py < 4096) × (width ≤ 4096) × (written ≤ 1000000000000) }
-    requires px_in_bounds { (py * width + px < length depths.old) × (length colors.old ≡ 4 * length depths.old) }
+    requires solid { (solid_of state ≡ true) × (color ≡ solid_color t) }
+    requires bounds { (px < 4096) × (py < 4096) × (width ≤ 4096) × (written ≤ 1000000000000) }
+    requires lengths { (py * width + px < length depths.old) × (length colors.old ≡ 4 * length depths.old) }
     ensures { drawn_to colors.new depths.new result ≡ pixel_of [] (drawing state [] 0 []) t width py px (drawn_to colors.old depths.old written) }
 {
     let w = coverage::weights_at(t.raster, px, py);

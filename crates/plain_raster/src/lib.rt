@@ -27,10 +27,10 @@ fn fill_row(
     py: u32,
     written: usize,
 ) -> usize
-    requires x1_le_width { (x1 ≤ width) × (py < 4096) × (width ≤ 4096) × (written ≤ 900000000000) }
-    requires width_in_bounds { (py * width + width ≤ length depths.old) × (length colors.old ≡ 4 * length depths.old) }
-    ensures result_after { drawn_to colors.new depths.new result ≡ row_of [] (drawing state [] 0 []) t width x0 x1 py (drawn_to colors.old depths.old written) }
-    ensures upper_bound { result ≤ written + 4096 }
+    requires bounds { (x1 ≤ width) × (py < 4096) × (width ≤ 4096) × (written ≤ 900000000000) }
+    requires lengths { (py * width + width ≤ length depths.old) × (length colors.old ≡ 4 * length depths.old) }
+    ensures drawn { drawn_to colors.new depths.new result ≡ row_of [] (drawing state [] 0 []) t width x0 x1 py (drawn_to colors.old depths.old written) }
+    ensures count { result ≤ written + 4096 }
 {
     let mut n = written;
     for px in x0..x1 {
@@ -49,10 +49,10 @@ fn fill(
     pixels: PixelBox,
     written: usize,
 ) -> usize
-    requires x1_le_width { (pixels.x1 ≤ width) × (pixels.y1 ≤ 4096) × (width ≤ 4096) × (written ≤ 800000000000) }
-    requires width_in_bounds { (pixels.y1 * width ≤ length depths.old) × (length colors.old ≡ 4 * length depths.old) }
-    ensures result_after { drawn_to colors.new depths.new result ≡ fill_of [] (drawing state [] 0 []) t width pixels (drawn_to colors.old depths.old written) }
-    ensures upper_bound { result ≤ written + 16777216 }
+    requires bounds { (pixels.x1 ≤ width) × (pixels.y1 ≤ 4096) × (width ≤ 4096) × (written ≤ 800000000000) }
+    requires lengths { (pixels.y1 * width ≤ length depths.old) × (length colors.old ≡ 4 * length depths.old) }
+    ensures drawn { drawn_to colors.new depths.new result ≡ fill_of [] (drawing state [] 0 []) t width pixels (drawn_to colors.old depths.old written) }
+    ensures count { result ≤ written + 16777216 }
 {
     let mut n = written;
     for py in pixels.y0..pixels.y1 {
@@ -74,10 +74,10 @@ fn raster_clipped(
     c: Vertex,
     written: usize,
 ) -> usize
-    requires x1_le_width { (within.x1 ≤ width) × (within.y1 ≤ 4096) × (width ≤ 4096) × (written ≤ 800000000000) }
-    requires width_in_bounds { (within.y1 * width ≤ length depths.old) × (length colors.old ≡ 4 * length depths.old) }
-    ensures result_after { drawn_to colors.new depths.new result ≡ raster_of [] (drawing state [] 0 []) view within width (triangle_of a b c) (drawn_to colors.old depths.old written) }
-    ensures upper_bound { result ≤ written + 16777216 }
+    requires bounds { (within.x1 ≤ width) × (within.y1 ≤ 4096) × (width ≤ 4096) × (written ≤ 800000000000) }
+    requires lengths { (within.y1 * width ≤ length depths.old) × (length colors.old ≡ 4 * length depths.old) }
+    ensures drawn { drawn_to colors.new depths.new result ≡ raster_of [] (drawing state [] 0 []) view within width (triangle_of a b c) (drawn_to colors.old depths.old written) }
+    ensures count { result ≤ written + 16777216 }
 {
     let range = state.depth_range;
     let front_face = state.front_face;
@@ -106,8 +106,8 @@ fn draw_fan(
     b: Vertex,
     c: Vertex,
 ) -> usize
-    requires x1_le_width { (within.x1 ≤ width) × (within.y1 ≤ 4096) × (width ≤ 4096) }
-    requires width_in_bounds { (within.y1 * width ≤ length depths.old) × (length colors.old ≡ 4 * length depths.old) }
+    requires bounds { (within.x1 ≤ width) × (within.y1 ≤ 4096) × (width ≤ 4096) }
+    requires lengths { (within.y1 * width ≤ length depths.old) × (length colors.old ≡ 4 * length depths.old) }
     ensures { drawn_to colors.new depths.new result ≡ draw_each (raster_of [] (drawing state [] 0 []) view within width) (fan_of (clipped (a ∷ b ∷ c ∷ []))) (drawn_to colors.old depths.old 0) }
 {
     let mut polygon = [0.0f32; 714];
@@ -139,8 +139,8 @@ pub fn draw_left(
     b: Vertex,
     c: Vertex,
 ) -> usize
-    requires x1_le_width { (within.x1 ≤ width) × (within.y1 ≤ 4096) × (width ≤ 4096) }
-    requires width_in_bounds { (within.y1 * width ≤ length depths.old) × (length colors.old ≡ 4 * length depths.old) }
+    requires bounds { (within.x1 ≤ width) × (within.y1 ≤ 4096) × (width ≤ 4096) }
+    requires lengths { (within.y1 * width ≤ length depths.old) × (length colors.old ≡ 4 * length depths.old) }
     ensures { drawn_to colors.new depths.new result ≡ left_drawn [] (drawing state [] 0 []) view within width a b c (drawn_to colors.old depths.old 0) }
 {
     if clip::all_inside(a, b, c) {

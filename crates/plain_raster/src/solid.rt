@@ -22,11 +22,11 @@ fn fill_row(
     py: u32,
     written: usize,
 ) -> usize
-    requires state_value { (solid_of state ≡ true) × (color ≡ solid_color t) }
-    requires x1_le_width { (x1 ≤ width) × (py < 4096) × (width ≤ 4096) × (written ≤ 900000000000) }
-    requires width_in_bounds { (py * width + width ≤ length depths.old) × (length colors.old ≡ 4 * length depths.old) }
-    ensures result_after { drawn_to colors.new depths.new result ≡ row_of [] (drawing state [] 0 []) t width x0 x1 py (drawn_to colors.old depths.old written) }
-    ensures upper_bound { result ≤ written + 4096 }
+    requires solid { (solid_of state ≡ true) × (color ≡ solid_color t) }
+    requires bounds { (x1 ≤ width) × (py < 4096) × (width ≤ 4096) × (written ≤ 900000000000) }
+    requires lengths { (py * width + width ≤ length depths.old) × (length colors.old ≡ 4 * length depths.old) }
+    ensures drawn { drawn_to colors.new depths.new result ≡ row_of [] (drawing state [] 0 []) t width x0 x1 py (drawn_to colors.old depths.old written) }
+    ensures count { result ≤ written + 4096 }
 {
     let mut n = written;
     for px in x0..x1 {
@@ -45,11 +45,11 @@ pub fn fill(
     pixels: PixelBox,
     written: usize,
 ) -> usize
-    requires state_value { solid_of state ≡ true }
-    requires x1_le_width { (pixels.x1 ≤ width) × (pixels.y1 ≤ 4096) × (width ≤ 4096) × (written ≤ 800000000000) }
-    requires width_in_bounds { (pixels.y1 * width ≤ length depths.old) × (length colors.old ≡ 4 * length depths.old) }
-    ensures result_after { drawn_to colors.new depths.new result ≡ fill_of [] (drawing state [] 0 []) t width pixels (drawn_to colors.old depths.old written) }
-    ensures upper_bound { result ≤ written + 16777216 }
+    requires solid { solid_of state ≡ true }
+    requires bounds { (pixels.x1 ≤ width) × (pixels.y1 ≤ 4096) × (width ≤ 4096) × (written ≤ 800000000000) }
+    requires lengths { (pixels.y1 * width ≤ length depths.old) × (length colors.old ≡ 4 * length depths.old) }
+    ensures drawn { drawn_to colors.new depths.new result ≡ fill_of [] (drawing state [] 0 []) t width pixels (drawn_to colors.old depths.old written) }
+    ensures count { result ≤ written + 16777216 }
 {
     let color = plain_pixels::solid::solid_color(t);
     let mut n = written;

@@ -179,10 +179,10 @@ fn packed_sample(
     texture: Texture,
     p: Coordinates,
 ) -> u32
-    requires thresholds_1 { Thresholds table.now }
-    requires thresholds_2 { valid_of (length store.now) texture ≡ true }
-    requires places_value_1 { places.now ≡ places_of texture.levels }
-    requires places_value_2 { sides.now ≡ sides_of texture.levels }
+    requires thresholds { Thresholds table.now }
+    requires valid { valid_of (length store.now) texture ≡ true }
+    requires places_known { places.now ≡ places_of texture.levels }
+    requires sides_known { sides.now ≡ sides_of texture.levels }
     ensures { result ≡ packed (sample_of store.now texture p) }
 {
     packed_texel(sampler::sample_lent(store, table, places, sides, texture, p))
@@ -197,11 +197,11 @@ fn fill(
     coords: &[f32],
     out: &mut [u32],
 )
-    requires thresholds_1 { Thresholds table.now }
-    requires thresholds_2 { valid_of (length store.now) texture ≡ true }
-    requires thresholds_3 { length coords.now ≡ length out.old * 6 }
-    requires places_value_1 { places.now ≡ places_of texture.levels }
-    requires places_value_2 { sides.now ≡ sides_of texture.levels }
+    requires thresholds { Thresholds table.now }
+    requires valid { valid_of (length store.now) texture ≡ true }
+    requires coordinates { length coords.now ≡ length out.old * 6 }
+    requires places_known { places.now ≡ places_of texture.levels }
+    requires sides_known { sides.now ≡ sides_of texture.levels }
     ensures { out.new ≡ tab (length out.old) (λ (i : ℕ). packed (sample_of store.now texture (coordinates_from coords.now i))) }
 {
     let mut i = 0;

@@ -64,12 +64,12 @@ fn fill_row(
     py: u32,
     written: usize,
 ) -> usize
-    requires thresholds_1 { Thresholds table.now }
-    requires thresholds_2 { StagesFit (length store.now) count stages textures }
-    requires x1_le_width { (x1 ≤ width) × (py < 4096) × (width ≤ 4096) × (written ≤ 900000000000) }
-    requires width_in_bounds { (py * width + width ≤ length depths.old) × (length colors.old ≡ 4 * length depths.old) }
-    ensures result_after { drawn_to colors.new depths.new result ≡ row_of store.now (drawing state stages count textures) t width x0 x1 py (drawn_to colors.old depths.old written) }
-    ensures upper_bound { result ≤ written + 4096 }
+    requires thresholds { Thresholds table.now }
+    requires stages_fit { StagesFit (length store.now) count stages textures }
+    requires bounds { (x1 ≤ width) × (py < 4096) × (width ≤ 4096) × (written ≤ 900000000000) }
+    requires lengths { (py * width + width ≤ length depths.old) × (length colors.old ≡ 4 * length depths.old) }
+    ensures drawn { drawn_to colors.new depths.new result ≡ row_of store.now (drawing state stages count textures) t width x0 x1 py (drawn_to colors.old depths.old written) }
+    ensures count { result ≤ written + 4096 }
 {
     let mut n = written;
     for px in x0..x1 {
@@ -95,12 +95,12 @@ fn fill(
     pixels: PixelBox,
     written: usize,
 ) -> usize
-    requires thresholds_1 { Thresholds table.now }
-    requires thresholds_2 { StagesFit (length store.now) count stages textures }
-    requires x1_le_width { (pixels.x1 ≤ width) × (pixels.y1 ≤ 4096) × (width ≤ 4096) × (written ≤ 800000000000) }
-    requires width_in_bounds { (pixels.y1 * width ≤ length depths.old) × (length colors.old ≡ 4 * length depths.old) }
-    ensures result_after { drawn_to colors.new depths.new result ≡ fill_of store.now (drawing state stages count textures) t width pixels (drawn_to colors.old depths.old written) }
-    ensures upper_bound { result ≤ written + 16777216 }
+    requires thresholds { Thresholds table.now }
+    requires stages_fit { StagesFit (length store.now) count stages textures }
+    requires bounds { (pixels.x1 ≤ width) × (pixels.y1 ≤ 4096) × (width ≤ 4096) × (written ≤ 800000000000) }
+    requires lengths { (pixels.y1 * width ≤ length depths.old) × (length colors.old ≡ 4 * length depths.old) }
+    ensures drawn { drawn_to colors.new depths.new result ≡ fill_of store.now (drawing state stages count textures) t width pixels (drawn_to colors.old depths.old written) }
+    ensures count { result ≤ written + 16777216 }
 {
     let mut n = written;
     for py in pixels.y0..pixels.y1 {
@@ -130,12 +130,12 @@ fn raster_clipped(
     c: Vertex,
     written: usize,
 ) -> usize
-    requires thresholds_1 { Thresholds table.now }
-    requires thresholds_2 { StagesFit (length store.now) count stages textures }
-    requires x1_le_width { (within.x1 ≤ width) × (within.y1 ≤ 4096) × (width ≤ 4096) × (written ≤ 800000000000) }
-    requires width_in_bounds { (within.y1 * width ≤ length depths.old) × (length colors.old ≡ 4 * length depths.old) }
-    ensures result_after { drawn_to colors.new depths.new result ≡ raster_of store.now (drawing state stages count textures) view within width (triangle_of a b c) (drawn_to colors.old depths.old written) }
-    ensures upper_bound { result ≤ written + 16777216 }
+    requires thresholds { Thresholds table.now }
+    requires stages_fit { StagesFit (length store.now) count stages textures }
+    requires bounds { (within.x1 ≤ width) × (within.y1 ≤ 4096) × (width ≤ 4096) × (written ≤ 800000000000) }
+    requires lengths { (within.y1 * width ≤ length depths.old) × (length colors.old ≡ 4 * length depths.old) }
+    ensures drawn { drawn_to colors.new depths.new result ≡ raster_of store.now (drawing state stages count textures) view within width (triangle_of a b c) (drawn_to colors.old depths.old written) }
+    ensures count { result ≤ written + 16777216 }
 {
     let range = state.depth_range;
     let front_face = state.front_face;
@@ -168,10 +168,10 @@ fn draw_fan(
     b: Vertex,
     c: Vertex,
 ) -> usize
-    requires thresholds_1 { Thresholds table.now }
-    requires thresholds_2 { StagesFit (length store.now) count stages textures }
-    requires x1_le_width { (within.x1 ≤ width) × (within.y1 ≤ 4096) × (width ≤ 4096) }
-    requires width_in_bounds { (within.y1 * width ≤ length depths.old) × (length colors.old ≡ 4 * length depths.old) }
+    requires thresholds { Thresholds table.now }
+    requires stages_fit { StagesFit (length store.now) count stages textures }
+    requires bounds { (within.x1 ≤ width) × (within.y1 ≤ 4096) × (width ≤ 4096) }
+    requires lengths { (within.y1 * width ≤ length depths.old) × (length colors.old ≡ 4 * length depths.old) }
     ensures { drawn_to colors.new depths.new result ≡ draw_each (raster_of store.now (drawing state stages count textures) view within width) (fan_of (clipped (a ∷ b ∷ c ∷ []))) (drawn_to colors.old depths.old 0) }
 {
     let mut polygon = [0.0f32; 714];
@@ -209,10 +209,10 @@ pub fn draw_left(
     b: Vertex,
     c: Vertex,
 ) -> usize
-    requires thresholds_1 { Thresholds table.now }
-    requires thresholds_2 { StagesFit (length store.now) count stages textures }
-    requires x1_le_width { (within.x1 ≤ width) × (within.y1 ≤ 4096) × (width ≤ 4096) }
-    requires width_in_bounds { (within.y1 * width ≤ length depths.old) × (length colors.old ≡ 4 * length depths.old) }
+    requires thresholds { Thresholds table.now }
+    requires stages_fit { StagesFit (length store.now) count stages textures }
+    requires bounds { (within.x1 ≤ width) × (within.y1 ≤ 4096) × (width ≤ 4096) }
+    requires lengths { (within.y1 * width ≤ length depths.old) × (length colors.old ≡ 4 * length depths.old) }
     ensures { drawn_to colors.new depths.new result ≡ left_drawn store.now (drawing state stages count textures) view within width a b c (drawn_to colors.old depths.old 0) }
 {
     if clip::all_inside(a, b, c) {

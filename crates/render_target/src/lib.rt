@@ -154,7 +154,7 @@ pub fn clear_color(
     rgba: [u8; 4],
     scissor: Scissor,
 ) -> Answer
-    ensures result_value { number_of result ≡ clear_color_check width height (length colors.old) depths_len scissor }
+    ensures answer { number_of result ≡ clear_color_check width height (length colors.old) depths_len scissor }
     ensures colors_after { colors.new ≡ clear_color_of width height depths_len rgba scissor colors.old }
 {
     if !scissor::target_fits(width, height, colors.len(), depths_len) {
@@ -176,7 +176,7 @@ pub fn clear_depth(
     value: f32,
     scissor: Scissor,
 ) -> Answer
-    ensures result_value { number_of result ≡ clear_depth_check width height colors_len (length depths.old) value scissor }
+    ensures answer { number_of result ≡ clear_depth_check width height colors_len (length depths.old) value scissor }
     ensures depths_after { depths.new ≡ clear_depth_of width height colors_len value scissor depths.old }
 {
     if !scissor::target_fits(width, height, colors_len, depths.len()) {

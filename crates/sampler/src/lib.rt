@@ -266,10 +266,10 @@ fn sample_chosen(
     s: f32,
     t: f32,
 ) -> Texel
-    requires readable_1 { Readable (length store.now) texture }
-    requires readable_2 { Within texture.max_mipmap_level chosen }
-    requires places_value_1 { places.now ≡ places_of texture.levels }
-    requires places_value_2 { sides.now ≡ sides_of texture.levels }
+    requires readable { Readable (length store.now) texture }
+    requires chosen_within { Within texture.max_mipmap_level chosen }
+    requires places_known { places.now ≡ places_of texture.levels }
+    requires sides_known { sides.now ≡ sides_of texture.levels }
     ensures { result ≡ chosen_texel texture chosen s t (bytes_at store.now (chosen_addresses texture chosen s t)) }
 {
     let level = first_level(chosen);
@@ -324,10 +324,10 @@ pub fn sample_lent(
     texture: Texture,
     p: Coordinates,
 ) -> Texel
-    requires thresholds_1 { Thresholds table.now }
-    requires thresholds_2 { valid_of (length store.now) texture ≡ true }
-    requires places_value_1 { places.now ≡ places_of texture.levels }
-    requires places_value_2 { sides.now ≡ sides_of texture.levels }
+    requires thresholds { Thresholds table.now }
+    requires valid { valid_of (length store.now) texture ≡ true }
+    requires places_known { places.now ≡ places_of texture.levels }
+    requires sides_known { sides.now ≡ sides_of texture.levels }
     ensures { result ≡ sample_of store.now texture p }
 {
     let levels = texture.levels;
@@ -360,8 +360,8 @@ pub fn sample_with_gradients(
     texture: Texture,
     p: Coordinates,
 ) -> Sampled
-    requires fact_1 { Thresholds table.now }
-    requires fact_2 { valid_of (length store.now) texture ≡ true }
+    requires thresholds { Thresholds table.now }
+    requires valid { valid_of (length store.now) texture ≡ true }
     ensures { result ≡ sampled_of store.now texture p }
 {
     let places = places(texture);

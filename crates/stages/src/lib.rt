@@ -62,8 +62,8 @@ fn stage_color(
     p: Coordinates,
     frag: Rgba,
 ) -> Rgba
-    requires fact_1 { Thresholds table.now }
-    requires fact_2 { valid_of (length store.now) texture ≡ true }
+    requires thresholds { Thresholds table.now }
+    requires valid { valid_of (length store.now) texture ≡ true }
     ensures { result ≡ stage_color store.now stage texture p frag }
 {
     let levels = texture.levels;
@@ -89,8 +89,8 @@ pub fn stage_at(
     rec: f32,
     frag: Rgba,
 ) -> Rgba
-    requires fact_1 { Thresholds table.now }
-    requires fact_2 { (valid_of (length store.now) texture ≡ true) × (stage.unit < 4) }
+    requires thresholds { Thresholds table.now }
+    requires valid { (valid_of (length store.now) texture ≡ true) × (stage.unit < 4) }
     ensures { result ≡ stage_color store.now stage texture (coordinates_of t w rec stage.unit) frag }
 {
     let p = coordinates_at(t, w, rec, stage.unit);
@@ -109,8 +109,8 @@ pub fn stages_color(
     rec: f32,
     frag: Rgba,
 ) -> Rgba
-    requires fact_1 { Thresholds table.now }
-    requires fact_2 { StagesFit (length store.now) count stages textures }
+    requires thresholds { Thresholds table.now }
+    requires stages_fit { StagesFit (length store.now) count stages textures }
     ensures { result ≡ stages_color store.now stages count textures t w rec frag }
 {
     let mut color = frag;

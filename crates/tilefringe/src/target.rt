@@ -38,7 +38,7 @@ pub extern "C" fn tf_clear_color(
     box_width: i32,
     box_height: i32,
 ) -> u32
-    ensures value { result ≡ clear_color_check width height (length colors.old) depths_len (scissor_of boxed box_x box_y box_width box_height) }
+    ensures answer { result ≡ clear_color_check width height (length colors.old) depths_len (scissor_of boxed box_x box_y box_width box_height) }
     ensures colors_after { colors.new ≡ clear_color_of width height depths_len (r ∷ g ∷ b ∷ a ∷ []) (scissor_of boxed box_x box_y box_width box_height) colors.old }
 {
     let s = scissor(boxed, box_x, box_y, box_width, box_height);
@@ -59,7 +59,7 @@ pub extern "C" fn tf_clear_depth(
     box_width: i32,
     box_height: i32,
 ) -> u32
-    ensures value { result ≡ clear_depth_check width height colors_len (length depths.old) value (scissor_of boxed box_x box_y box_width box_height) }
+    ensures answer { result ≡ clear_depth_check width height colors_len (length depths.old) value (scissor_of boxed box_x box_y box_width box_height) }
     ensures depths_after { depths.new ≡ clear_depth_of width height colors_len value (scissor_of boxed box_x box_y box_width box_height) depths.old }
 {
     let s = scissor(boxed, box_x, box_y, box_width, box_height);
@@ -74,7 +74,7 @@ pub extern "C" fn tf_to_rgb565(
     height: u32,
     out: &mut [u8],
 ) -> u32
-    ensures value { result ≡ export_check width height (length colors.now) depths_len }
+    ensures answer { result ≡ export_check width height (length colors.now) depths_len }
     ensures out_after { out.new ≡ rgb565_of width height depths_len colors.now out.old }
 {
     export::to_rgb565(colors, depths_len, width, height, out).number()

@@ -6,7 +6,7 @@ use Rattle.floats.proofs.saturating_u32.Goals as goal
 
 pub truncating_f32_to_u64-requires : goal.truncating_f32_to_u64-requires
 unfolding of_bits neg
-truncating_f32_to_u64-requires c = (subst T (sym c.if-x.true) tt, subst T (sym (wider 32 _ (lit≤ tt) c.if-x-2.true)) tt)
+truncating_f32_to_u64-requires c = record { lower_bound = subst T (sym c.if-x.true) tt; upper_bound = subst T (sym (wider 32 _ (lit≤ tt) c.if-x-2.true)) tt }
 
 pub overflow_cast-result : goal.overflow_cast-result
 unfolding of_bits neg
