@@ -20,7 +20,7 @@ bounds-palette-sel c = omega (arith, c.requires c.loop-i.i)
 pub loop-i-preserved : goal.loop-i-preserved
 loop-i-preserved c =
     let a = c.args in
-    (search rules, rw c.loop-i.invariant.1 (tab_more (λ j. get_or a.t1 (get_or a.t2 j 0) 0) c.loop-i.i _ (search rules)))
+    (search rules, rw c.loop-i.invariant.1 (tab_more (λ j. get_or a.palette (get_or a.selectors j 0) 0) c.loop-i.i _ (search rules)))
 
 pub returns : goal.returns
 returns c =

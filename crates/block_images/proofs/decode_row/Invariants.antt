@@ -12,9 +12,9 @@ use Rattle.block_images.proofs.decode_row.Given as goal
 
 abbrev pub invariant-loop-bx : goal.invariant-loop-bx
 invariant-loop-bx l =
-    (l.bx ≤ l.bytes)
-    × (length l.out ≡ length l.w)
-    × (l.out ≡ iter l.bx (λ j. put_block l.h l.by (block_texel l.b l.s ((l.bw * l.bytes + j) * l.initial.out)) j l.bw) l.w)
+    (l.bx ≤ l.bw)
+    × (length l.out ≡ length l.initial.out)
+    × (l.out ≡ iter l.bx (λ j. put_block l.w l.h (block_texel l.b l.s ((l.by * l.bw + j) * l.bytes)) j l.by) l.initial.out)
 
 abbrev pub decreases-loop-bx : goal.decreases-loop-bx
-decreases-loop-bx l = l.bytes - l.bx
+decreases-loop-bx l = l.bw - l.bx

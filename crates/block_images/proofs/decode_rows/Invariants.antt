@@ -12,9 +12,9 @@ use Rattle.block_images.proofs.decode_rows.Given as goal
 
 abbrev pub invariant-loop-by : goal.invariant-loop-by
 invariant-loop-by l =
-    (l.by ≤ l.initial.out)
-    × (length l.out ≡ length l.w)
-    × (l.out ≡ iter l.by (put_row (block_texel l.b) (block_bytes l.b) l.h l.bh l.s) l.w)
+    (l.by ≤ l.bh)
+    × (length l.out ≡ length l.initial.out)
+    × (l.out ≡ iter l.by (put_row (block_texel l.b) (block_bytes l.b) l.w l.h l.s) l.initial.out)
 
 abbrev pub decreases-loop-by : goal.decreases-loop-by
-decreases-loop-by l = l.initial.out - l.by
+decreases-loop-by l = l.bh - l.by

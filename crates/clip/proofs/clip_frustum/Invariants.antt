@@ -10,7 +10,7 @@ use Rattle.clip.proofs.Laws.{caps, caps_below, caps_next, clip_on, clip_out, cli
 use Rattle.clip.proofs.clip_frustum.Given as goal
 
 abbrev pub invariant-loop-plane : goal.invariant-loop-plane
-invariant-loop-plane l = (l.plane ≤ 7) × (length l.polygon ≡ 714) × (length l.scratch ≡ 714) × (l.left ≤ caps l.plane) × (clip_from l.plane (7 - l.plane) (corners_of l.left l.polygon) ≡ clipped (corners_of l.initial.left l.len))
+invariant-loop-plane l = (l.plane ≤ 7) × (length l.polygon ≡ 714) × (length l.scratch ≡ 714) × (l.left ≤ caps l.plane) × (clip_from l.plane (7 - l.plane) (corners_of l.left l.polygon) ≡ clipped (corners_of l.initial.left l.initial.polygon))
 
 abbrev pub decreases-loop-plane : goal.decreases-loop-plane
 decreases-loop-plane l = 7 - l.plane

@@ -16,8 +16,8 @@ returns-then-inside-eq0 c =
 
 pub copy_corners-requires : goal.copy_corners-requires
 copy_corners-requires c =
-    (omega (arith, c.walk-edges.auto), search rules, omega (arith, length_corners c.walk-edges.result c.walk-edges.new.1.1.1.0, ap length c.walk-edges.ensures, walked_few c.args.plane (corners_of c.args.len c.args.polygon.now), length_corners c.args.len c.args.polygon.now))
+    (omega (arith, c.walk_edges-n.auto), search rules, omega (arith, length_corners c.walk_edges-n.result c.walk_edges-n.new.1.1.1.0, ap length c.walk_edges-n.ensures, walked_few c.args.plane (corners_of c.args.len c.args.polygon.now), length_corners c.args.len c.args.polygon.now))
 
 pub returns : goal.returns
 returns c =
-    c.copy_corners.ensures ∙ c.walk-edges.ensures ∙ clip_walk c.args.plane (corners_of c.args.len c.args.polygon.now) c.count-inside.ensures (λ q. c.if1.false (q ∙ length_corners c.args.len c.args.polygon.now)) c.if2.false
+    c.copy_corners.ensures ∙ c.walk_edges-n.ensures ∙ clip_walk c.args.plane (corners_of c.args.len c.args.polygon.now) c.count_inside-inside.ensures (λ q. c.if-inside-len.false (q ∙ length_corners c.args.len c.args.polygon.now)) c.if-inside-eq0.false

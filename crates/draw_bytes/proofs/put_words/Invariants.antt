@@ -12,7 +12,7 @@ use Rattle.draw_bytes.proofs.put_words.Given as goal
 
 abbrev pub invariant-loop-i : goal.invariant-loop-i
 invariant-loop-i l =
-    (l.i ≤ length l.i-end) × (l.initial.i ≡ length l.i-end) × (length l.b ≡ length l.words) × (l.b ≡ flat l.i (word_bytes_at l.i-end) ++ drop (l.i * 4) l.words) × (length l.words ≡ length l.i-end * 4)
+    (l.i ≤ length l.words) × (l.i-end ≡ length l.words) × (length l.b ≡ length l.initial.b) × (l.b ≡ flat l.i (word_bytes_at l.words) ++ drop (l.i * 4) l.initial.b) × (length l.initial.b ≡ length l.words * 4)
 
 abbrev pub decreases-loop-i : goal.decreases-loop-i
-decreases-loop-i l = length l.i-end - l.i
+decreases-loop-i l = length l.words - l.i

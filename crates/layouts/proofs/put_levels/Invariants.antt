@@ -11,7 +11,7 @@ use Rattle.layouts.proofs.RoundTrip.{length_level}
 use Rattle.layouts.proofs.put_levels.Given as goal
 
 abbrev pub invariant-loop-i : goal.invariant-loop-i
-invariant-loop-i l = (l.i ≤ 11) × (length l.b ≡ length l.levels) × (l.b ≡ flat l.i (level_bytes_at l.initial.b) ++ drop (l.i * 20) l.levels)
+invariant-loop-i l = (l.i ≤ 11) × (length l.b ≡ length l.initial.b) × (l.b ≡ flat l.i (level_bytes_at l.levels) ++ drop (l.i * 20) l.initial.b)
 
 abbrev pub decreases-loop-i : goal.decreases-loop-i
 decreases-loop-i l = 11 - l.i

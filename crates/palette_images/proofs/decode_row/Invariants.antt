@@ -13,7 +13,7 @@ use Rattle.palette_images.proofs.decode_row.Given as goal
 
 abbrev pub invariant-loop-x : goal.invariant-loop-x
 invariant-loop-x l =
-    (l.x ≤ l.initial.out) × (length l.out ≡ length l.to) × (l.out ≡ paste l.to l.w (flat l.x (entry_at l.bits l.table l.s l.at)) (l.x * 4))
+    (l.x ≤ l.w) × (length l.out ≡ length l.initial.out) × (l.out ≡ paste l.initial.out l.to (flat l.x (entry_at l.bits l.table l.s l.at)) (l.x * 4))
 
 abbrev pub decreases-loop-x : goal.decreases-loop-x
-decreases-loop-x l = l.initial.out - l.x
+decreases-loop-x l = l.w - l.x

@@ -13,9 +13,9 @@ use Rattle.palette_images.proofs.decode_rows.Given as goal
 
 abbrev pub invariant-loop-y : goal.invariant-loop-y
 invariant-loop-y l =
-    (l.y ≤ l.row)
-    × (length l.out ≡ length l.w)
-    × (l.out ≡ flat l.y (λ j. flat l.h (entry_at l.bits l.table l.s (l.start + j * l.initial.out))) ++ drop (l.y * (l.h * 4)) l.w)
+    (l.y ≤ l.h)
+    × (length l.out ≡ length l.initial.out)
+    × (l.out ≡ flat l.y (λ j. flat l.w (entry_at l.bits l.table l.s (l.start + j * l.row))) ++ drop (l.y * (l.w * 4)) l.initial.out)
 
 abbrev pub decreases-loop-y : goal.decreases-loop-y
-decreases-loop-y l = l.row - l.y
+decreases-loop-y l = l.h - l.y

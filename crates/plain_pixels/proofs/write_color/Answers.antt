@@ -8,7 +8,7 @@ use Rattle.plain_pixels.proofs.write_color.Goals as goal
 
 pub returns-then-state : goal.returns-then-state
 unfolding put_color_of put_color written_of blended_of pixel_at
-returns-then-state c = c.put_color.ensures ∙ rw (c.if1.true, c.blended-out.ensures)
+returns-then-state c = c.put_color.ensures ∙ rw (c.if-state.true, c.blended-out.ensures)
 
 pub returns : goal.returns
 unfolding put_color_of put_color written_of blended_of pixel_at

@@ -12,11 +12,11 @@ use Rattle.plain_raster.proofs.fill.Given as goal
 
 abbrev pub invariant-loop-py : goal.invariant-loop-py
 invariant-loop-py l =
-    Filling (row_of [] (drawing l.width [] 0 []) l.pixels l.written l.py-end.x0 l.py-end.x1) l.py-end.y1 (fill_of [] (drawing l.width [] 0 []) l.pixels l.written l.py-end (drawn_to l.state l.t l.initial.colors))
-    (length l.state) (length l.t) l.colors l.depths l.n l.py
-    × (l.n + 4096 * l.py-end.y0 ≤ l.initial.colors + 4096 * l.py)
-    × (l.n ≤ l.initial.colors + 4096 * l.py-end.y1)
-    × (l.initial.py ≡ l.py-end.y1)
+    Filling (row_of [] (drawing l.state [] 0 []) l.t l.width l.pixels.x0 l.pixels.x1) l.pixels.y1 (fill_of [] (drawing l.state [] 0 []) l.t l.width l.pixels (drawn_to l.initial.colors l.initial.depths l.written))
+    (length l.initial.colors) (length l.initial.depths) l.colors l.depths l.n l.py
+    × (l.n + 4096 * l.pixels.y0 ≤ l.written + 4096 * l.py)
+    × (l.n ≤ l.written + 4096 * l.pixels.y1)
+    × (l.py-end ≡ l.pixels.y1)
 
 abbrev pub decreases-loop-py : goal.decreases-loop-py
-decreases-loop-py l = l.py-end.y1 - l.py
+decreases-loop-py l = l.pixels.y1 - l.py

@@ -8,20 +8,20 @@ use borrow.Author.Rules.{rules}
 use Rattle.plain_raster.proofs.raster_clipped.Goals as goal
 
 pub returns-in_default : goal.returns-in_default
-returns-in_default c = (nothing_drawn [] (drawing c.args.state [] 0 []) c.args.view c.args.within c.args.width c.args.a c.args.b c.args.c _ (sym c.setup_triangle.ensures ∙ c.in_default.is), omega arith)
+returns-in_default c = record { drawn = nothing_drawn [] (drawing c.args.state [] 0 []) c.args.view c.args.within c.args.width c.args.a c.args.b c.args.c _ (sym c.setup_triangle.ensures ∙ c.in_default.is); count = omega arith }
 
 pub fill-requires : goal.fill-requires
 fill-requires c =
     let w = setup_within _ _ _ _ c.args.within _ _ _ (sym c.setup_triangle.ensures ∙ c.in-Draws.is) in
-    (sym c.is_solid.ensures ∙ c.if-is_solid.true, ((omega (arith, c.requires, w.x_to), omega (arith, c.requires, w.y_to), omega (arith, c.requires), omega (arith, c.requires)), (omega (arith, c.requires, mul-le-mul_right c.args.width w.y_to), omega (arith, c.requires))))
+    record { bounds = sym c.is_solid.ensures ∙ c.if-is_solid.true; lengths = ((omega (arith, c.requires, w.x_to), omega (arith, c.requires, w.y_to), omega (arith, c.requires), omega (arith, c.requires)), (omega (arith, c.requires, mul-le-mul_right c.args.width w.y_to), omega (arith, c.requires))) }
 
 pub returns-then-is_solid : goal.returns-then-is_solid
-returns-then-is_solid c = (c.fill.ensures.0 ∙ rw c.primitive-t.ensures (filled [] (drawing c.args.state [] 0 []) c.args.view c.args.within c.args.width c.args.a c.args.b c.args.c _ (sym c.setup_triangle.ensures ∙ c.in-Draws.is)), c.fill.ensures.1)
+returns-then-is_solid c = record { drawn = c.fill.ensures.drawn ∙ rw c.primitive-t.ensures (filled [] (drawing c.args.state [] 0 []) c.args.view c.args.within c.args.width c.args.a c.args.b c.args.c _ (sym c.setup_triangle.ensures ∙ c.in-Draws.is)); count = c.fill.ensures.count }
 
 pub fill-requires-2 : goal.fill-requires-2
 fill-requires-2 c =
     let w = setup_within _ _ _ _ c.args.within _ _ _ (sym c.setup_triangle.ensures ∙ c.in-Draws.is) in
-    ((omega (arith, c.requires, w.x_to), omega (arith, c.requires, w.y_to), omega (arith, c.requires), omega (arith, c.requires)), (omega (arith, c.requires, mul-le-mul_right c.args.width w.y_to), omega (arith, c.requires)))
+    record { bounds = (omega (arith, c.requires, w.x_to), omega (arith, c.requires, w.y_to), omega (arith, c.requires), omega (arith, c.requires)); lengths = (omega (arith, c.requires, mul-le-mul_right c.args.width w.y_to), omega (arith, c.requires)) }
 
 pub returns : goal.returns
-returns c = (c.fill-2.ensures.0 ∙ rw c.primitive-t.ensures (filled [] (drawing c.args.state [] 0 []) c.args.view c.args.within c.args.width c.args.a c.args.b c.args.c _ (sym c.setup_triangle.ensures ∙ c.in-Draws.is)), c.fill-2.ensures.1)
+returns c = record { drawn = c.fill-2.ensures.drawn ∙ rw c.primitive-t.ensures (filled [] (drawing c.args.state [] 0 []) c.args.view c.args.within c.args.width c.args.a c.args.b c.args.c _ (sym c.setup_triangle.ensures ∙ c.in-Draws.is)); count = c.fill-2.ensures.count }

@@ -8,7 +8,7 @@ use Rattle.polygon.proofs.Corners.{corners_none, corners_more, corners_next}
 use Rattle.polygon.proofs.copy_corners.Given as goal
 
 abbrev pub invariant-loop-i : goal.invariant-loop-i
-invariant-loop-i l = (l.i ≤ l.initial.to) × (length l.to ≡ 714) × (corners_of l.i l.to ≡ corners_of l.i l.from)
+invariant-loop-i l = (l.i ≤ l.len) × (length l.to ≡ 714) × (corners_of l.i l.to ≡ corners_of l.i l.from)
 
 abbrev pub decreases-loop-i : goal.decreases-loop-i
-decreases-loop-i l = l.initial.to - l.i
+decreases-loop-i l = l.len - l.i

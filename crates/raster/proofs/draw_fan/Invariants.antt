@@ -13,11 +13,11 @@ use Rattle.raster.proofs.draw_fan.Given as goal
 
 abbrev pub invariant-loop-i : goal.invariant-loop-i
 invariant-loop-i l =
-    Filling (fan_step (raster_of l.state (drawing l.count l.textures l.view l.within) l.width l.polygon l.corners) l.first) (l.i-end - 1)
-    (between (fan_step (raster_of l.state (drawing l.count l.textures l.view l.within) l.width l.polygon l.corners) l.first) 1 (l.i-end - 1) (drawn_to l.store l.table 0))
-    (length l.store) (length l.table) l.colors l.depths l.n l.i
+    Filling (fan_step (raster_of l.store (drawing l.state l.stages l.count l.textures) l.view l.within l.width) l.polygon) (l.corners - 1)
+    (between (fan_step (raster_of l.store (drawing l.state l.stages l.count l.textures) l.view l.within l.width) l.polygon) 1 (l.corners - 1) (drawn_to l.initial.colors l.initial.depths 0))
+    (length l.initial.colors) (length l.initial.depths) l.colors l.depths l.n l.i
     × (l.n + 16777216 ≤ 16777216 * l.i)
-    × (l.initial.i ≡ l.i-end - 1)
+    × (l.i-end ≡ l.corners - 1)
 
 abbrev pub decreases-loop-i : goal.decreases-loop-i
-decreases-loop-i l = l.initial.i - l.i
+decreases-loop-i l = l.i-end - l.i

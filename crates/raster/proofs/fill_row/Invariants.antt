@@ -10,10 +10,10 @@ use Rattle.raster.proofs.fill_row.Given as goal
 
 abbrev pub invariant-loop-px : goal.invariant-loop-px
 invariant-loop-px l =
-    Filling (pixel_of l.state (drawing l.count l.textures l.t l.width) l.x0 l.x1 l.initial.colors) l.written (row_of l.state (drawing l.count l.textures l.t l.width) l.x0 l.x1 l.py l.written l.initial.colors (drawn_to l.store l.table l.initial.depths))
-    (length l.store) (length l.table) l.colors l.depths l.n l.px
-    × (l.n + l.py ≤ l.initial.depths + l.px)
-    × (l.n ≤ l.initial.depths + l.written)
+    Filling (pixel_of l.store (drawing l.state l.stages l.count l.textures) l.t l.width l.py) l.x1 (row_of l.store (drawing l.state l.stages l.count l.textures) l.t l.width l.x0 l.x1 l.py (drawn_to l.initial.colors l.initial.depths l.written))
+    (length l.initial.colors) (length l.initial.depths) l.colors l.depths l.n l.px
+    × (l.n + l.x0 ≤ l.written + l.px)
+    × (l.n ≤ l.written + l.x1)
 
 abbrev pub decreases-loop-px : goal.decreases-loop-px
-decreases-loop-px l = l.written - l.px
+decreases-loop-px l = l.x1 - l.px

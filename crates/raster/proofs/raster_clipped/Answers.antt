@@ -12,7 +12,7 @@ returns-in_default c = (nothing_drawn _ (drawing c.args.state c.args.stages c.ar
 pub fill-requires : goal.fill-requires
 fill-requires c =
     let w = setup_within _ _ _ _ c.args.within _ _ _ (sym c.setup_triangle.ensures ∙ c.in-Draws.is) in
-    (c.requires.0, (c.requires.1.0, ((omega (arith, c.requires, w.x_to), omega (arith, c.requires, w.y_to), omega (arith, c.requires), omega (arith, c.requires)), (omega (arith, c.requires, mul-le-mul_right c.args.width w.y_to), omega (arith, c.requires)))))
+    record { bounds = c.requires.0; lengths = (c.requires.1.0, ((omega (arith, c.requires, w.x_to), omega (arith, c.requires, w.y_to), omega (arith, c.requires), omega (arith, c.requires)), (omega (arith, c.requires, mul-le-mul_right c.args.width w.y_to), omega (arith, c.requires)))) }
 
 pub returns : goal.returns
-returns c = (c.fill.ensures.0 ∙ rw c.primitive-t.ensures (filled _ (drawing c.args.state c.args.stages c.args.count c.args.textures) c.args.view c.args.within c.args.width c.args.a c.args.b c.args.c _ (sym c.setup_triangle.ensures ∙ c.in-Draws.is)), c.fill.ensures.1)
+returns c = (c.fill.ensures.drawn ∙ rw c.primitive-t.ensures (filled _ (drawing c.args.state c.args.stages c.args.count c.args.textures) c.args.view c.args.within c.args.width c.args.a c.args.b c.args.c _ (sym c.setup_triangle.ensures ∙ c.in-Draws.is)), c.fill.ensures.count)

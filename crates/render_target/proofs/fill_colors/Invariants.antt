@@ -10,7 +10,7 @@ use Rattle.render_target.proofs.fill_colors.Given as goal
 
 abbrev pub invariant-loop-p : goal.invariant-loop-p
 invariant-loop-p l =
-    (l.colors ≡ span_of (color_at l.initial.colors) 0 (l.to * 4) (l.p * 4) l.from) × (length l.colors ≡ length l.from) × (l.to ≤ l.p) × (l.p ≤ l.rgba)
+    (l.colors ≡ span_of (color_at l.rgba) 0 (l.from * 4) (l.p * 4) l.initial.colors) × (length l.colors ≡ length l.initial.colors) × (l.from ≤ l.p) × (l.p ≤ l.to)
 
 abbrev pub decreases-loop-p : goal.decreases-loop-p
-decreases-loop-p l = l.rgba - l.p
+decreases-loop-p l = l.to - l.p

@@ -11,7 +11,7 @@ use Rattle.render_target.proofs.fill_depths.Given as goal
 
 abbrev pub invariant-loop-i : goal.invariant-loop-i
 invariant-loop-i l =
-    (l.depths ≡ span_of (λ n. l.initial.depths) nan l.to l.i l.from) × (length l.depths ≡ length l.from) × (l.to ≤ l.i) × (l.i ≤ l.value)
+    (l.depths ≡ span_of (λ n. l.value) nan l.from l.i l.initial.depths) × (length l.depths ≡ length l.initial.depths) × (l.from ≤ l.i) × (l.i ≤ l.to)
 
 abbrev pub decreases-loop-i : goal.decreases-loop-i
-decreases-loop-i l = l.value - l.i
+decreases-loop-i l = l.to - l.i

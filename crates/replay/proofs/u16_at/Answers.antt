@@ -8,4 +8,4 @@ returns-then-b-at c = sym (none16 _ _ c.if-b-at.true)
 
 pub returns : goal.returns
 unfolding word16_of
-returns c = rw (c.wide16.ensures.0, c.wide16-2.ensures.0, c.byte_at.ensures, c.byte_at-2.ensures)
+returns c = rw (c.wide16.ensures.value, c.wide16-2.ensures.value, c.byte_at.ensures, c.byte_at-2.ensures)

@@ -7,8 +7,8 @@ pub returns-then-b-at : goal.returns-then-b-at
 returns-then-b-at c = sym (none32 _ _ c.if-b-at.true)
 
 pub returns-then-b-at-le2 : goal.returns-then-b-at-le2
-returns-then-b-at-le2 c = c.wide32.ensures.0 ∙ (c.u16_at.ensures ∙ sym (half32 _ _ (omega arith)))
+returns-then-b-at-le2 c = c.wide32.ensures.value ∙ (c.u16_at.ensures ∙ sym (half32 _ _ (omega arith)))
 
 pub returns : goal.returns
 unfolding word32_of
-returns c = rw (c.wide32-2.ensures.0, c.wide32-3.ensures.0, c.u16_at-2.ensures, c.u16_at-3.ensures)
+returns c = rw (c.wide32-2.ensures.value, c.wide32-3.ensures.value, c.u16_at-2.ensures, c.u16_at-3.ensures)

@@ -7,8 +7,8 @@ pub returns-then-b-at : goal.returns-then-b-at
 returns-then-b-at c = sym (none64 _ _ c.if-b-at.true)
 
 pub returns-then-b-at-le4 : goal.returns-then-b-at-le4
-returns-then-b-at-le4 c = c.wide64.ensures.0 ∙ (c.u32_at.ensures ∙ sym (half64 _ _ (omega arith)))
+returns-then-b-at-le4 c = c.wide64.ensures.value ∙ (c.u32_at.ensures ∙ sym (half64 _ _ (omega arith)))
 
 pub returns : goal.returns
 unfolding word64_of
-returns c = rw (c.wide64-2.ensures.0, c.wide64-3.ensures.0, c.u32_at-2.ensures, c.u32_at-3.ensures)
+returns c = rw (c.wide64-2.ensures.value, c.wide64-3.ensures.value, c.u32_at-2.ensures, c.u32_at-3.ensures)

@@ -5,7 +5,7 @@ use borrow.Author.Rules.{rules}
 use Rattle.replay_draw.proofs.same_floats.Given as goal
 
 abbrev pub invariant-loop-i : goal.invariant-loop-i
-invariant-loop-i l = l.initial.i ≡ length l.found
+invariant-loop-i l = l.i-end ≡ length l.found
 
 abbrev pub decreases-loop-i : goal.decreases-loop-i
-decreases-loop-i l = l.initial.i - l.i
+decreases-loop-i l = l.i-end - l.i

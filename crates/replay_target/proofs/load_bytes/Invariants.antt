@@ -5,7 +5,7 @@ use borrow.Author.Rules.{rules}
 use Rattle.replay_target.proofs.load_bytes.Given as goal
 
 abbrev pub invariant-loop-i : goal.invariant-loop-i
-invariant-loop-i l = (l.initial.i ≡ length l.entry) × (length l.out ≡ length l.entry)
+invariant-loop-i l = (l.i-end ≡ length l.initial.out) × (length l.out ≡ length l.initial.out)
 
 abbrev pub decreases-loop-i : goal.decreases-loop-i
-decreases-loop-i l = l.initial.i - l.i
+decreases-loop-i l = l.i-end - l.i

@@ -6,7 +6,7 @@ use borrow.Author.Rules.{rules}
 use Rattle.replay_texture.proofs.fill.Given as goal
 
 abbrev pub invariant-loop-i : goal.invariant-loop-i
-invariant-loop-i l = (l.i ≤ length l.first) × (length l.out ≡ length l.first)
+invariant-loop-i l = (l.i ≤ length l.initial.out) × (length l.out ≡ length l.initial.out)
 
 abbrev pub decreases-loop-i : goal.decreases-loop-i
-decreases-loop-i l = length l.first - l.i
+decreases-loop-i l = length l.initial.out - l.i

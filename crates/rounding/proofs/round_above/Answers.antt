@@ -6,7 +6,7 @@ use Rattle.rounding.proofs.round_above.Goals as goal
 pub truncating_f32_to_u64-twice-requires : goal.truncating_f32_to_u64-twice-requires
 unfolding of_bits
 truncating_f32_to_u64-twice-requires c =
-    let h = twice _ (subst T (sym c.well_formed.0.1) tt) c.requires c.if-x.true in (h.above_minus, h.below_top)
+    let h = twice _ (subst T (sym c.well_formed.0.1) tt) c.requires c.if-x.true in record { lower_bound = h.above_minus; upper_bound = h.below_top }
 
 pub overflow_add-twice : goal.overflow_add-twice
 unfolding of_bits

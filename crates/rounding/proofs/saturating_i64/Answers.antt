@@ -6,7 +6,7 @@ use Rattle.rounding.proofs.saturating_i64.Goals as goal
 
 pub truncating_f32_to_u64-requires : goal.truncating_f32_to_u64-requires
 unfolding of_bits neg
-truncating_f32_to_u64-requires c = (subst T (sym c.if-x.true) tt, subst T (sym (wider 63 _ (lit≤ tt) c.if-x-2.true)) tt)
+truncating_f32_to_u64-requires c = record { lower_bound = subst T (sym c.if-x.true) tt; upper_bound = subst T (sym (wider 63 _ (lit≤ tt) c.if-x-2.true)) tt }
 
 pub returns-then-x-2 : goal.returns-then-x-2
 unfolding of_bits neg
@@ -18,7 +18,7 @@ returns-then-x c = cut_high 63 (lit≤ tt) _ c.if-x.true c.if-x-2.false
 
 pub truncating_f32_to_u64-requires-then-y : goal.truncating_f32_to_u64-requires-then-y
 unfolding of_bits neg
-truncating_f32_to_u64-requires-then-y c = (minus_above 63 (lit≤ tt) _ c.if-x.false c.if-y.true, subst T (sym (wider 63 _ (lit≤ tt) c.if-y.true)) tt)
+truncating_f32_to_u64-requires-then-y c = record { lower_bound = minus_above 63 (lit≤ tt) _ c.if-x.false c.if-y.true; upper_bound = subst T (sym (wider 63 _ (lit≤ tt) c.if-y.true)) tt }
 
 pub overflow_sub-result : goal.overflow_sub-result
 unfolding of_bits neg

@@ -12,7 +12,7 @@ use Rattle.texels.proofs.fill.Given as goal
 
 abbrev pub invariant-loop-i : goal.invariant-loop-i
 invariant-loop-i l =
-    (l.i ≤ l.bytes) × (length l.out ≡ length l.count) × (l.out ≡ flat l.i (nth_texel l.t l.s) ++ drop (l.i * 4) l.count)
+    (l.i ≤ l.count) × (length l.out ≡ length l.initial.out) × (l.out ≡ flat l.i (nth_texel l.t l.s) ++ drop (l.i * 4) l.initial.out)
 
 abbrev pub decreases-loop-i : goal.decreases-loop-i
-decreases-loop-i l = l.bytes - l.i
+decreases-loop-i l = l.count - l.i

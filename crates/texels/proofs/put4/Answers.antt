@@ -15,4 +15,4 @@ bounds-out-at-4 c = simp length-set (omega arith)
 
 pub returns : goal.returns
 returns c =
-    let a = c.args in paste_four a.out.now a.at a.t3 0 (omega arith) (omega arith)
+    let a = c.args in paste_four a.out.now a.at a.c 0 (omega arith) (omega arith)

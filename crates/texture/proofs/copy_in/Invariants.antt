@@ -8,7 +8,7 @@ use lib.Seq.{paste, paste-zero, paste-suc}
 use Rattle.texture.proofs.copy_in.Given as goal
 
 abbrev pub invariant-loop-i : goal.invariant-loop-i
-invariant-loop-i l = (l.initial.i ≡ length l.i-end) × (l.i ≤ length l.i-end) × (length l.store ≡ length l.place) × (l.store ≡ paste l.place l.src l.i-end l.i)
+invariant-loop-i l = (l.i-end ≡ length l.src) × (l.i ≤ length l.src) × (length l.store ≡ length l.initial.store) × (l.store ≡ paste l.initial.store l.place l.src l.i)
 
 abbrev pub decreases-loop-i : goal.decreases-loop-i
-decreases-loop-i l = length l.i-end - l.i
+decreases-loop-i l = length l.src - l.i

@@ -16,10 +16,10 @@ pasted_back d s h =
     ∙ take-length s
 
 pub slice_bounds-copy_in-end-2 : goal.slice_bounds-copy_in-end-2
-slice_bounds-copy_in-end-2 c = sym (length-take-le _ _ (omega (arith, c.copy-in.auto, c.requires)))
+slice_bounds-copy_in-end-2 c = sym (length-take-le _ _ (omega (arith, c.copy_in.auto, c.requires)))
 
 pub copy_in-requires-2 : goal.copy_in-requires-2
-copy_in-requires-2 c = rw (c.copy-in.ensures, pasted_back c.args.row.now c.args.src.now c.requires.1) c.requires.0
+copy_in-requires-2 c = rw (c.copy_in.ensures, pasted_back c.args.row.now c.args.src.now c.requires.1) c.requires.0
 
 pub returns : goal.returns
-returns c = c.copy_in-2.ensures ∙ rw (c.copy-in.ensures, pasted_back c.args.row.now c.args.src.now c.requires.1)
+returns c = c.copy_in-2.ensures ∙ rw (c.copy_in.ensures, pasted_back c.args.row.now c.args.src.now c.requires.1)

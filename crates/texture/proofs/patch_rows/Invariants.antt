@@ -10,7 +10,7 @@ use Rattle.texture.specs.Patch.{patch_row, patch_store}
 use Rattle.texture.proofs.patch_rows.Given as goal
 
 abbrev pub invariant-loop-r : goal.invariant-loop-r
-invariant-loop-r l = (l.r ≤ l.patch) × (length l.store ≡ length l.m) × (l.store ≡ iter l.r (patch_row l.x l.y l.width l.height l.initial.store) l.m)
+invariant-loop-r l = (l.r ≤ l.height) × (length l.store ≡ length l.initial.store) × (l.store ≡ iter l.r (patch_row l.m l.x l.y l.width l.patch) l.initial.store)
 
 abbrev pub decreases-loop-r : goal.decreases-loop-r
-decreases-loop-r l = l.patch - l.r
+decreases-loop-r l = l.height - l.r

@@ -11,10 +11,10 @@ use Rattle.plain_raster.proofs.solid.fill_row.Given as goal
 
 abbrev pub invariant-loop-px : goal.invariant-loop-px
 invariant-loop-px l =
-    Filling (pixel_of [] (drawing l.color [] 0 []) l.width l.x1 l.initial.colors) l.written (row_of [] (drawing l.color [] 0 []) l.width l.x1 l.py l.written l.initial.colors (drawn_to l.state l.t l.initial.depths))
-    (length l.state) (length l.t) l.colors l.depths l.n l.px
-    × (l.n + l.py ≤ l.initial.depths + l.px)
-    × (l.n ≤ l.initial.depths + l.written)
+    Filling (pixel_of [] (drawing l.state [] 0 []) l.t l.width l.py) l.x1 (row_of [] (drawing l.state [] 0 []) l.t l.width l.x0 l.x1 l.py (drawn_to l.initial.colors l.initial.depths l.written))
+    (length l.initial.colors) (length l.initial.depths) l.colors l.depths l.n l.px
+    × (l.n + l.x0 ≤ l.written + l.px)
+    × (l.n ≤ l.written + l.x1)
 
 abbrev pub decreases-loop-px : goal.decreases-loop-px
-decreases-loop-px l = l.written - l.px
+decreases-loop-px l = l.x1 - l.px

@@ -3,4 +3,4 @@ use borrow.Author.Rules.{rules}
 use Rattle.probes.proofs.probe_clip.probe_clip_triangle.Goals as goal
 
 pub returns : goal.returns
-returns c = c.clip_triangle.ensures ∙ rw (c.corner-c.ensures, c.corner2.ensures, c.corner.ensures)
+returns c = c.clip_triangle.ensures ∙ rw (c.corner-c.ensures, c.corner-b.ensures, c.corner-a.ensures)

@@ -8,7 +8,7 @@ use Rattle.probes.proofs.Mapped.{Mapped, mapped_none, mapped_more, mapped_all}
 use Rattle.probes.proofs.probe_sampler.probe_steps.Given as goal
 
 abbrev pub invariant-loop-i : goal.invariant-loop-i
-invariant-loop-i l = Mapped (steps_at l.src) (length l.src) l.table l.out l.i
+invariant-loop-i l = Mapped (steps_at l.src) (length l.src) l.initial.out l.out l.i
 
 abbrev pub decreases-loop-i : goal.decreases-loop-i
 decreases-loop-i l = length l.src - l.i
