@@ -33,7 +33,7 @@ unfolding put_nth
 loop-i-preserved c =
     (
       search rules,
-      c.put_texel.auto.0 ∙ c.loop-i.invariant.1,
+      c.put_texel.auto.out ∙ c.loop-i.invariant.1,
       rw (← iter_more, ← c.loop-i.invariant.2)
           (c.put_texel.ensures ∙ rw c.texel_of-c.ensures),
     )

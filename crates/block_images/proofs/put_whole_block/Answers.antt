@@ -88,7 +88,7 @@ loop-i-preserved c =
     let x : a.bx * 4 + i % 4 < a.w = omega (arith, c.requires.0) in
     let y : a.by * 4 + i / 4 < a.h = omega (arith, c.requires.1) in (
       search rules,
-      c.put4.auto.0 ∙ c.loop-i.invariant.1,
+      c.put4.auto.out ∙ c.loop-i.invariant.1,
       rw (← iter_more, ← c.loop-i.invariant.2)
           (no _ (lt-leb a.w (a.bx * 4 + i % 4) x) (no _ (lt-leb a.h (a.by * 4 + i / 4) y) (c.put4.ensures ∙ rw c.texel_of-c.ensures))),
     )

@@ -34,6 +34,6 @@ returns-in-34798 c = rw c.in-34798.is
 pub returns-in_default : goal.returns-in_default
 unfolding compressed_of
 returns-in_default c =
-    let m = c.in_default-own.rest in simp
+    let m = c.in_default.in_default-own.rest in simp
     (ne_eqb _ _ m.0.0.0.0.0.0.1, ne_eqb _ _ m.0.0.0.0.0.1, ne_eqb _ _ m.0.0.0.0.1, ne_eqb _ _ m.0.0.0.1, ne_eqb _ _ m.0.0.1, ne_eqb _ _ m.0.1, ne_eqb _ _ m.1)
     c.palette_of.ensures

@@ -45,7 +45,7 @@ returns-in-35737 c = rw c.in-35737.is
 pub returns-in_default : goal.returns-in_default
 unfolding palette_of
 returns-in_default c =
-    let m = c.in_default-own.rest in simp (
+    let m = c.in_default.in_default-own.rest in simp (
       ne_eqb _ _ m.0.0.0.0.0.0.0.0.0.1,
       ne_eqb _ _ m.0.0.0.0.0.0.0.0.1,
       ne_eqb _ _ m.0.0.0.0.0.0.0.1,

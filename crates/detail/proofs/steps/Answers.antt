@@ -16,10 +16,10 @@ offset : (x : ℕ) → 1023 ≤ x → x - 1 ≡ x - 1023 + 1022
 offset x h = omega arith
 
 pub float_to_bits-bits : goal.float_to_bits-bits
-float_to_bits-bits c = no_nan _ c.requires.1.0
+float_to_bits-bits c = no_nan _ c.requires.above_one
 
 pub overflow_sub-exponent : goal.overflow_sub-exponent
-overflow_sub-exponent c = (read c.args.q (held c.well_formed.1.0.1) c.requires.1.0 c.requires.1.1).high
+overflow_sub-exponent c = (read c.args.q (held c.well_formed.1.0.1) c.requires.above_one c.requires.finite).high
 
 pub float_from_bits-m : goal.float_from_bits-m
 float_from_bits-m c = significand_number _ (mod-lt _ (pow_pos 52))
@@ -34,7 +34,7 @@ step_of-requires c =
     let v = significand t h in
     let m = of_bits binary64 (t + field_of_one) in
     let o = from_one m t h v in
-    (c.requires.0, (positive_of_value m ((t + 2 ^ 52) * 2 ^ 1022) (2 ^ 1074) v (some t), (o.0, (o.1, omega arith))))
+    record { thresholds = c.requires.thresholds; positive = positive_of_value m ((t + 2 ^ 52) * 2 ^ 1022) (2 ^ 1074) v (some t); at_least_one = o.0; below_two = o.1; exponent = omega arith }
 
 pub overflow_add-result : goal.overflow_add-result
 overflow_add-result c = omega (arith, to_bits-lt binary64 c.args.q (held c.well_formed.1.0.1), c.step_of.ensures.0)
@@ -43,6 +43,6 @@ pub returns : goal.returns
 returns c =
     let q = c.args.q in
     let t = to_bits binary64 q % 2 ^ 52 in
-    let r : Read q _ _ _ = read q (held c.well_formed.1.0.1) c.requires.1.0 c.requires.1.1 in
+    let r : Read q _ _ _ = read q (held c.well_formed.1.0.1) c.requires.above_one c.requires.finite in
     let v = significand t (mod-lt (to_bits binary64 q) (pow_pos 52)) in
     largest_is q _ (found q _ _ (times q (of_bits binary64 (t + field_of_one)) _ _ _ (offset _ r.high) r.value v) c.step_of.result c.step_of.ensures.1)

@@ -14,7 +14,7 @@ check_late-requires c = stages_few _ _ (early_stages _ _ _ _ c.args.state _ _ c.
 pub draw_checked-n-requires : goal.draw_checked-n-requires
 draw_checked-n-requires c =
     let st = early_stages _ _ _ _ c.args.state _ _ c.requires in
-    (early_target _ _ _ _ c.args.state _ _ c.requires, stages_do_fit _ _ st _ _ (late_records _ _ _ _ _ _ (sym c.check_late.ensures ∙ ap number_of c.in_default.is)))
+    record { target = early_target _ _ _ _ c.args.state _ _ c.requires; stages_fit = stages_do_fit _ _ st _ _ (late_records _ _ _ _ _ _ (sym c.check_late.ensures ∙ ap number_of c.in_default.is)) }
 
 pub returns-in_default : goal.returns-in_default
 returns-in_default c = drew_it _ c.args.width c.args.height c.args.state c.args.stages c.args.count c.args.a c.args.b c.args.c c.args.units _ _ c.requires (sym (c.check_late.ensures ∙ rw c.bind-textures.ensures) ∙ ap number_of c.in_default.is) (c.draw_checked-n.ensures ∙ rw c.bind-textures.ensures)

@@ -18,7 +18,7 @@ unfolding word_bytes_at word_bytes
 loop-i-preserved c = (
   search rules,
   c.loop-i.invariant.1,
-  c.copy_in.auto.0 ∙ c.loop-i.invariant.2,
+  c.copy_in.auto.store ∙ c.loop-i.invariant.2,
   c.copy_in.ensures ∙ rw (c.loop-i.invariant.3, c.word_bytes-bytes.ensures) (flat_more 4 (word_bytes_at c.args.words.now) (λ n. length_word c.args.words.now n) c.loop-i.i _),
   c.loop-i.invariant.4,
 )

@@ -8,4 +8,4 @@ returns-in-2304 c = rw c.in-2304.is
 
 pub returns-in_default : goal.returns-in_default
 unfolding face_of
-returns-in_default c = rw (ne_eqb _ _ c.in_default-own.rest.1)
+returns-in_default c = rw (ne_eqb _ _ c.in_default.in_default-own.rest.1)

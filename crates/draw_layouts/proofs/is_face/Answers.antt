@@ -12,4 +12,4 @@ returns-in-2305 c = rw c.in-2305.is
 
 pub returns-in_default : goal.returns-in_default
 unfolding face_known
-returns-in_default c = rw (ne_eqb _ _ c.in_default-own.rest.0.1, ne_eqb _ _ c.in_default-own.rest.1)
+returns-in_default c = rw (ne_eqb _ _ c.in_default.in_default-own.rest.0.1, ne_eqb _ _ c.in_default.in_default-own.rest.1)

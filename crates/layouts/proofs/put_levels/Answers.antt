@@ -17,7 +17,7 @@ pub loop-i-preserved : goal.loop-i-preserved
 unfolding level_bytes_at level_bytes
 loop-i-preserved c = (
   search rules,
-  c.copy_in.auto.0 ∙ c.loop-i.invariant.1,
+  c.copy_in.auto.store ∙ c.loop-i.invariant.1,
   c.copy_in.ensures ∙ rw (c.loop-i.invariant.2, c.level_bytes-bytes.ensures)
       (flat_more 20 (level_bytes_at c.args.levels) (λ n. length_level c.args.levels n) c.loop-i.i _),
 )

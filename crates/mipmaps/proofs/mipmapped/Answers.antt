@@ -8,10 +8,10 @@ use Rattle.mipmaps.proofs.mipmapped.Goals as goal
 
 pub cut_steps-requires : goal.cut_steps-requires
 unfolding of_bits
-cut_steps-requires c = (c.requires.0, (subst T (sym c.if-q.true) tt, c.requires.1))
+cut_steps-requires c = record { thresholds = c.requires.thresholds; above_one = subst T (sym c.if-q.true) tt; top_in = c.requires.top_in }
 
 pub minified_levels-requires : goal.minified_levels-requires
-minified_levels-requires c = omega (arith, c.cut_steps.ensures, cut_le c.args.q c.args.top, c.requires.1)
+minified_levels-requires c = omega (arith, c.cut_steps.ensures, cut_le c.args.q c.args.top, c.requires.top_in)
 
 pub returns-then-q : goal.returns-then-q
 returns-then-q c = yes _ c.if-q.true (c.minified_levels.ensures ∙ rw c.cut_steps.ensures)

@@ -12,7 +12,7 @@ pub returns-then-not-is_usable : goal.returns-then-not-is_usable
 returns-then-not-is_usable c = unusable _ (drawing c.args.state c.args.stages c.args.count c.args.textures) c.args.t c.args.w c.args.stored (was_so (c.depth_passes.ensures ∙ rw c.depth_at-z.ensures) c.if-not-depth_passes.false-raw) (was_not (c.is_usable.ensures ∙ rw c.inv_w_at-iw.ensures) c.if-not-is_usable.true-raw)
 
 pub stage_at-sampled-requires : goal.stage_at-sampled-requires
-stage_at-sampled-requires c = (c.requires.0, (c.requires.1.valid 0 (omega (arith, c.if-count-eq1.true)), c.requires.1.units 0 (omega (arith, c.if-count-eq1.true))))
+stage_at-sampled-requires c = record { thresholds = c.requires.thresholds; valid = (c.requires.stages_fit.valid 0 (omega (arith, c.if-count-eq1.true)), c.requires.stages_fit.units 0 (omega (arith, c.if-count-eq1.true))) }
 
 pub returns-then-count-eq1 : goal.returns-then-count-eq1
 unfolding shaded_of fog_depth_of

@@ -24,14 +24,14 @@ pub corner-third-requires : goal.corner-third-requires
 corner-third-requires c = let few = corners_few _ _ c.args.a c.args.b c.args.c c.clip_triangle-corners.ensures in (search rules, omega (arith, few, c.loop-i-test.true, c.loop-i.invariant.2))
 
 pub raster_clipped-n-requires : goal.raster_clipped-n-requires
-raster_clipped-n-requires c = let few = corners_few _ _ c.args.a c.args.b c.args.c c.clip_triangle-corners.ensures in record { bounds = c.requires.0; lengths = (c.requires.1.0, ((omega (arith, c.requires), omega (arith, c.requires), omega (arith, c.requires), omega (arith, few, c.loop-i.invariant)), (omega (arith, c.requires, c.loop-i.invariant.0.depths_long), omega (arith, c.requires, c.loop-i.invariant.0.depths_long, c.loop-i.invariant.0.colors_long)))) }
+raster_clipped-n-requires c = let few = corners_few _ _ c.args.a c.args.b c.args.c c.clip_triangle-corners.ensures in (c.requires.0, (c.requires.bounds, ((omega (arith, c.requires), omega (arith, c.requires), omega (arith, c.requires), omega (arith, few, c.loop-i.invariant)), (omega (arith, c.requires, c.loop-i.invariant.0.depths_long), omega (arith, c.requires, c.loop-i.invariant.0.depths_long, c.loop-i.invariant.0.colors_long)))))
 
 pub overflow_step-i : goal.overflow_step-i
 overflow_step-i c = let few = corners_few _ _ c.args.a c.args.b c.args.c c.clip_triangle-corners.ensures in omega (arith, few, c.loop-i-test.true, c.loop-i.invariant.2)
 
 pub loop-i-preserved : goal.loop-i-preserved
 unfolding fan_step
-loop-i-preserved c = (fill_more c.loop-i.invariant.0 (omega (arith, c.loop-i-test.true, c.loop-i.invariant)) (c.raster_clipped-n.ensures.drawn ∙ rw (c.corner-third.ensures, c.corner-second.ensures, c.corner-first.ensures)) c.raster_clipped-n.auto.0 c.raster_clipped-n.auto.1.0, omega (arith, c.raster_clipped-n.ensures.count), c.loop-i.invariant.2)
+loop-i-preserved c = (fill_more c.loop-i.invariant.0 (omega (arith, c.loop-i-test.true, c.loop-i.invariant)) (c.raster_clipped-n.ensures.drawn ∙ rw (c.corner-third.ensures, c.corner-second.ensures, c.corner-first.ensures)) c.raster_clipped-n.auto.colors c.raster_clipped-n.auto.1.0, omega (arith, c.raster_clipped-n.ensures.count), c.loop-i.invariant.2)
 
 pub shape_of-colors : goal.shape_of-colors
 shape_of-colors c = c.loop-i.invariant.0.colors_long

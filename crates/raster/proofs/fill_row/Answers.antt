@@ -13,10 +13,10 @@ unfolding row_of
 loop-px-init c = (record { rest = refl; colors_long = refl; depths_long = refl }, omega arith, omega arith)
 
 pub draw_pixel-n-requires : goal.draw_pixel-n-requires
-draw_pixel-n-requires c = record { bounds = c.requires.0; lengths = (c.requires.1.0, ((omega (arith, c.requires), omega (arith, c.requires), omega (arith, c.requires), omega (arith, c.requires, c.loop-px.invariant)), (omega (arith, c.requires, c.loop-px.invariant.0.depths_long), omega (arith, c.requires, c.loop-px.invariant.0.depths_long, c.loop-px.invariant.0.colors_long)))) }
+draw_pixel-n-requires c = (c.requires.0, (c.requires.bounds, ((omega (arith, c.requires), omega (arith, c.requires), omega (arith, c.requires), omega (arith, c.requires, c.loop-px.invariant)), (omega (arith, c.requires, c.loop-px.invariant.0.depths_long), omega (arith, c.requires, c.loop-px.invariant.0.depths_long, c.loop-px.invariant.0.colors_long)))))
 
 pub loop-px-preserved : goal.loop-px-preserved
-loop-px-preserved c = let k = pixel_count _ _ _ _ _ _ _ c.draw_pixel-n.ensures in (fill_more c.loop-px.invariant.0 c.loop-px-test.true c.draw_pixel-n.ensures c.draw_pixel-n.auto.0 c.draw_pixel-n.auto.1.0, omega (arith, k), omega (arith, k))
+loop-px-preserved c = let k = pixel_count _ _ _ _ _ _ _ c.draw_pixel-n.ensures in (fill_more c.loop-px.invariant.0 c.loop-px-test.true c.draw_pixel-n.ensures c.draw_pixel-n.auto.colors c.draw_pixel-n.auto.1.0, omega (arith, k), omega (arith, k))
 
 pub shape_of-colors : goal.shape_of-colors
 shape_of-colors c = c.loop-px.invariant.0.colors_long
@@ -25,4 +25,4 @@ pub shape_of-depths : goal.shape_of-depths
 shape_of-depths c = c.loop-px.invariant.0.depths_long
 
 pub returns : goal.returns
-returns c = (fill_end c.loop-px.invariant.0 c.loop-px-test.false, omega (arith, c.requires))
+returns c = record { drawn = fill_end c.loop-px.invariant.0 c.loop-px-test.false; count = omega (arith, c.requires) }

@@ -16,12 +16,12 @@ returns-then-first-eq0-2 c = c.white_texel-then-first-eq0-2.ensures ∙ incomple
 pub chosen_levels-chosen-requires : goal.chosen_levels-chosen-requires
 chosen_levels-chosen-requires c =
     let x = c.args.texture in
-    (c.requires.0, (readable _ x c.requires.1.0 (both_sides x c.if-first-eq0.false c.if-first-eq0-2.false) c.eleven.ensures).few)
+    record { thresholds = c.requires.0; top_in = (readable _ x c.requires.places_known (both_sides x c.if-first-eq0.false c.if-first-eq0-2.false) c.eleven.ensures).few }
 
 pub sample_chosen-requires : goal.sample_chosen-requires
 sample_chosen-requires c =
     let x = c.args.texture in
-    (readable _ x c.requires.1.0 (both_sides x c.if-first-eq0.false c.if-first-eq0-2.false) c.eleven.ensures, (rw c.chosen_levels-chosen.ensures (chosen_within _ _ _ _ _ _), (c.requires.1.1.0, c.requires.1.1.1)))
+    (readable _ x c.requires.places_known (both_sides x c.if-first-eq0.false c.if-first-eq0-2.false) c.eleven.ensures, (rw c.chosen_levels-chosen.ensures (chosen_within _ _ _ _ _ _), (c.requires.sides_known.0, c.requires.sides_known.1)))
 
 pub returns : goal.returns
 unfolding levels_for level_of levels_of

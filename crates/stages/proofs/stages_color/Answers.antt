@@ -11,10 +11,10 @@ pub loop-i-init : goal.loop-i-init
 loop-i-init c = (search rules, iter_none _ _)
 
 pub coordinates_at-p-requires : goal.coordinates_at-p-requires
-coordinates_at-p-requires c = c.requires.1.units c.loop-i.i (omega arith)
+coordinates_at-p-requires c = c.requires.stages_fit.units c.loop-i.i (omega arith)
 
 pub stage_color-color-requires : goal.stage_color-color-requires
-stage_color-color-requires c = (c.requires.0, c.requires.1.valid c.loop-i.i (omega arith))
+stage_color-color-requires c = record { thresholds = c.requires.thresholds; valid = c.requires.stages_fit.valid c.loop-i.i (omega arith) }
 
 pub loop-i-preserved : goal.loop-i-preserved
 unfolding stage_step

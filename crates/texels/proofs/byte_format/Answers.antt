@@ -25,5 +25,5 @@ returns-in-6408 c = rw c.in-6408.is
 pub returns-in_default : goal.returns-in_default
 unfolding byte_format
 returns-in_default c =
-    let m = c.in_default-own.rest in simp
+    let m = c.in_default.in_default-own.rest in simp
     (ne_eqb _ _ m.0.0.0.0.1, ne_eqb _ _ m.0.0.0.1, ne_eqb _ _ m.0.0.1, ne_eqb _ _ m.0.1, ne_eqb _ _ m.1)

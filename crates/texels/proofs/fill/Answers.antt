@@ -34,7 +34,7 @@ unfolding nth_texel
 loop-i-preserved c =
     let a = c.args in (
       search rules,
-      c.put4.auto.0 ∙ c.loop-i.invariant.1,
+      c.put4.auto.out ∙ c.loop-i.invariant.1,
       rw (c.put4.ensures, c.loop-i.invariant.2, c.texel_at-c.ensures, c.texel_bytes-bytes.ensures)
           (flat_more 4 (nth_texel a.t a.s.now) (nth_four a.t a.s.now) c.loop-i.i a.out.now),
     )

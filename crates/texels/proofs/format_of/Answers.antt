@@ -22,4 +22,4 @@ returns-in-5121 c = rw c.in-5121.is c.byte_format.ensures
 pub returns-in_default : goal.returns-in_default
 unfolding format_of
 returns-in_default c =
-    let m = c.in_default-own.rest in simp (ne_eqb _ _ m.0.0.0.1, ne_eqb _ _ m.0.0.1, ne_eqb _ _ m.0.1, ne_eqb _ _ m.1)
+    let m = c.in_default.in_default-own.rest in simp (ne_eqb _ _ m.0.0.0.1, ne_eqb _ _ m.0.0.1, ne_eqb _ _ m.0.1, ne_eqb _ _ m.1)

@@ -18,7 +18,7 @@ patch_row-requires c =
     (search rules, omega arith, omega arith, omega (arith, row_in c.loop-r.r a.height (a.width * 4) 0 (a.width * 4) (omega arith) (omega arith)))
 
 pub loop-r-preserved : goal.loop-r-preserved
-loop-r-preserved c = (search rules, c.patch_row.auto.0 ∙ c.loop-r.invariant.1, c.patch_row.ensures ∙ rw c.loop-r.invariant.2 (iter_more _ _ _))
+loop-r-preserved c = (search rules, c.patch_row.auto.store ∙ c.loop-r.invariant.1, c.patch_row.ensures ∙ rw c.loop-r.invariant.2 (iter_more _ _ _))
 
 pub returns : goal.returns
 unfolding patch_store

@@ -6,7 +6,7 @@ use Rattle.probes.proofs.probe_sampler.steps_from.Goals as goal
 
 pub steps-requires : goal.steps-requires
 unfolding of_bits div
-steps-requires c = (c.requires, (subst T (sym c.if-q.true) tt, subst T (sym c.if-q-2.true) tt))
+steps-requires c = record { thresholds = c.requires; above_one = subst T (sym c.if-q.true) tt; finite = subst T (sym c.if-q-2.true) tt }
 
 pub returns-then-q-2 : goal.returns-then-q-2
 unfolding of_bits div

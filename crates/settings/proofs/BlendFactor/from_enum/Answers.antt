@@ -48,4 +48,4 @@ returns-in-776 c = rw c.in-776.is
 
 pub returns-in_default : goal.returns-in_default
 unfolding read_factor
-returns-in_default c = rw (ne_eqb _ _ c.in_default-own.rest.0.0.0.0.0.0.0.0.0.0.1, ne_eqb _ _ c.in_default-own.rest.0.0.0.0.0.0.0.0.0.1, ne_eqb _ _ c.in_default-own.rest.0.0.0.0.0.0.0.0.1, ne_eqb _ _ c.in_default-own.rest.0.0.0.0.0.0.0.1, ne_eqb _ _ c.in_default-own.rest.0.0.0.0.0.0.1, ne_eqb _ _ c.in_default-own.rest.0.0.0.0.0.1, ne_eqb _ _ c.in_default-own.rest.0.0.0.0.1, ne_eqb _ _ c.in_default-own.rest.0.0.0.1, ne_eqb _ _ c.in_default-own.rest.0.0.1, ne_eqb _ _ c.in_default-own.rest.0.1, ne_eqb _ _ c.in_default-own.rest.1)
+returns-in_default c = rw (ne_eqb _ _ c.in_default.in_default-own.rest.0.0.0.0.0.0.0.0.0.0.1, ne_eqb _ _ c.in_default.in_default-own.rest.0.0.0.0.0.0.0.0.0.1, ne_eqb _ _ c.in_default.in_default-own.rest.0.0.0.0.0.0.0.0.1, ne_eqb _ _ c.in_default.in_default-own.rest.0.0.0.0.0.0.0.1, ne_eqb _ _ c.in_default.in_default-own.rest.0.0.0.0.0.0.1, ne_eqb _ _ c.in_default.in_default-own.rest.0.0.0.0.0.1, ne_eqb _ _ c.in_default.in_default-own.rest.0.0.0.0.1, ne_eqb _ _ c.in_default.in_default-own.rest.0.0.0.1, ne_eqb _ _ c.in_default.in_default-own.rest.0.0.1, ne_eqb _ _ c.in_default.in_default-own.rest.0.1, ne_eqb _ _ c.in_default.in_default-own.rest.1)
