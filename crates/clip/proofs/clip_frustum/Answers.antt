@@ -18,12 +18,12 @@ clip_plane-left-requires c = (search rules, search rules, omega (arith, caps_bel
 
 pub returns-then-left-lt3 : goal.returns-then-left-lt3
 returns-then-left-lt3 c =
-    let n = length_corners c.clip_plane-left.result c.clip_plane-left.new.0 in
+    let n = length_corners c.clip_plane-left.result c.clip_plane-left.new.polygon in
     corners_none _ ∙ sym (clip_out c.loop-plane.plane (corners_of c.loop-plane.left c.loop-plane.polygon) c.loop-plane-test.true (omega (arith, ap length c.clip_plane-left.ensures, c.if-left-lt3.true))) ∙ c.loop-plane.invariant.4
 
 pub loop-plane-preserved : goal.loop-plane-preserved
 loop-plane-preserved c =
-    let n = length_corners c.clip_plane-left.result c.clip_plane-left.new.0 in (
+    let n = length_corners c.clip_plane-left.result c.clip_plane-left.new.polygon in (
       search rules,
       omega (arith, c.clip_plane-left.auto),
       omega (arith, c.clip_plane-left.auto),

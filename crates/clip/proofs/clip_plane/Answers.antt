@@ -16,7 +16,7 @@ returns-then-inside-eq0 c =
 
 pub copy_corners-requires : goal.copy_corners-requires
 copy_corners-requires c =
-    (omega (arith, c.walk_edges-n.auto), search rules, omega (arith, length_corners c.walk_edges-n.result c.walk_edges-n.new.1.1.1.0, ap length c.walk_edges-n.ensures, walked_few c.args.plane (corners_of c.args.len c.args.polygon.now), length_corners c.args.len c.args.polygon.now))
+    (omega (arith, c.walk_edges-n.auto), search rules, omega (arith, length_corners c.walk_edges-n.result c.walk_edges-n.new.out, ap length c.walk_edges-n.ensures, walked_few c.args.plane (corners_of c.args.len c.args.polygon.now), length_corners c.args.len c.args.polygon.now))
 
 pub returns : goal.returns
 returns c =

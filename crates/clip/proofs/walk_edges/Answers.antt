@@ -23,7 +23,7 @@ keep_inside-n-requires c =
 pub add_crossing-n-requires : goal.add_crossing-n-requires
 add_crossing-n-requires c =
     let l = length_corners c.args.len c.args.polygon.now in
-    (omega (arith, c.keep_inside-n.auto), omega (arith, length_corners c.keep_inside-n.result c.keep_inside-n.new.0, ap length c.keep_inside-n.ensures, room_cross c.loop-i.invariant.2 (omega arith) (omega arith) _ _ (this_corner c.args.len c.args.polygon.now c.loop-i.i c.loop-i-test.true c.corner-a.ensures) (next_corner c.args.len c.args.polygon.now c.loop-i.i c.loop-i-test.true c.corner-b.ensures c.next_corner.ensures)))
+    (omega (arith, c.keep_inside-n.auto), omega (arith, length_corners c.keep_inside-n.result c.keep_inside-n.new.out, ap length c.keep_inside-n.ensures, room_cross c.loop-i.invariant.2 (omega arith) (omega arith) _ _ (this_corner c.args.len c.args.polygon.now c.loop-i.i c.loop-i-test.true c.corner-a.ensures) (next_corner c.args.len c.args.polygon.now c.loop-i.i c.loop-i-test.true c.corner-b.ensures c.next_corner.ensures)))
 
 pub loop-i-preserved : goal.loop-i-preserved
 loop-i-preserved c =
