@@ -11,6 +11,7 @@ use Rattle.clip.specs.Clip.{insides}
 use Rattle.clip.proofs.Laws.{insides_end}
 use Rattle.clip.proofs.Walks.{counted}
 use Rattle.clip.proofs.count_inside.Goals as goal
+use Rattle.clip.proofs.count_inside.Goals.{then-is_inside, else-is_inside}
 
 pub loop-i-init : goal.loop-i-init
 loop-i-init c = (search rules, search rules, search rules)
@@ -18,10 +19,10 @@ loop-i-init c = (search rules, search rules, search rules)
 pub loop-i-preserved : goal.loop-i-preserved
 loop-i-preserved c =
     let e = counted c.args.plane c.args.len c.args.polygon.now c.loop-i.i c.loop-i-test.true (c.is_inside.ensures ∙ ap (inside c.args.plane) c.corner.ensures) in
-    ⊎_elim
-    (λ w. (omega arith, omega arith, omega (arith, rw w.0.taken at e)))
-    (λ w. (omega arith, omega arith, omega (arith, rw w.0.left at e)))
-    c.if-is_inside.branch
+    elim c.if-is_inside.branch [
+      then-is_inside w ↦ (omega arith, omega arith, omega (arith, rw w.if-is_inside.true at e))
+    | else-is_inside w ↦ (omega arith, omega arith, omega (arith, rw w.if-is_inside.false at e))
+    ]
 
 pub returns : goal.returns
 returns c = omega (arith, insides_end c.args.plane (corners_of c.args.len c.args.polygon.now) c.loop-i.i (omega (arith, length_corners c.args.len c.args.polygon.now)))

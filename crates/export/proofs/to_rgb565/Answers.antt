@@ -3,7 +3,12 @@ use native.Mathlib.Nat.{mul-le-mul}
 use native.Mathlib.Omega.{arith}
 use borrow.Author.Rules.{rules}
 use Rattle.answers.specs.declared.Refusal.TheVariants.{Target}
-use Rattle.lists.proofs.Choice.{stay, leave}
+use Prim.Native.Nat.{ℕ}
+use mathlib.Core.Path.{◌≡◌}
+use lib.ListN.{length}
+use Rattle.answers.specs.Numbers.{refusal_number}
+use Rattle.answers.proofs.Answered.{refused_test, done_test}
+use Rattle.lists.proofs.Choice.{yes, no, stay, leave}
 use Rattle.export.specs.Export.{export_check}
 use Rattle.export.specs.Export.{rgb565_of}
 use Rattle.scissor.proofs.Outcome.{refused, done, target_is, passed}
@@ -11,7 +16,9 @@ use Rattle.export.proofs.to_rgb565.Goals as goal
 
 pub returns-then-not-target_fits : goal.returns-then-not-target_fits
 unfolding export_check rgb565_of
-returns-then-not-target_fits c = refused _ _ Target (leave _ c.target_fits.ensures c.if-not-target_fits.true-raw refl)
+returns-then-not-target_fits c =
+    let e : refusal_number Target ≡ export_check c.args.width c.args.height (length c.args.colors.now) c.args.depths_len = leave _ c.target_fits.ensures c.if-not-target_fits.true-raw refl in
+    record { answer = e; out_after = no _ (refused_test Target _ e) refl }
 
 pub overflow_mul-width : goal.overflow_mul-width
 overflow_mul-width c =
@@ -23,4 +30,6 @@ export_fitting-requires c = omega (arith, target_is _ _ _ _ (passed c.target_fit
 
 pub returns : goal.returns
 unfolding export_check rgb565_of
-returns c = done _ (stay _ c.target_fits.ensures c.if-not-target_fits.false-raw refl) c.export_fitting.ensures
+returns c =
+    let e : 0 ≡ export_check c.args.width c.args.height (length c.args.colors.now) c.args.depths_len = stay _ c.target_fits.ensures c.if-not-target_fits.false-raw refl in
+    record { answer = e; out_after = yes _ (done_test _ e) c.export_fitting.ensures }

@@ -1,7 +1,12 @@
 use mathlib.Core.Path.{refl}
 use borrow.Author.Rules.{rules}
 use Rattle.answers.specs.declared.Refusal.TheVariants.{Target, Scissor}
-use Rattle.lists.proofs.Choice.{stay, leave}
+use Prim.Native.Nat.{ℕ}
+use mathlib.Core.Path.{◌≡◌}
+use lib.ListN.{length}
+use Rattle.answers.specs.Numbers.{refusal_number}
+use Rattle.answers.proofs.Answered.{refused_test, done_test}
+use Rattle.lists.proofs.Choice.{yes, no, stay, leave}
 use Rattle.render_target.specs.Clear.{clear_color_check}
 use Rattle.render_target.specs.Clear.{clear_color_of}
 use Rattle.scissor.proofs.Outcome.{refused, done, target_is, passed}
@@ -9,15 +14,21 @@ use Rattle.render_target.proofs.clear_color.Goals as goal
 
 pub returns-then-not-target_fits : goal.returns-then-not-target_fits
 unfolding clear_color_check clear_color_of
-returns-then-not-target_fits c = refused _ _ Target (leave _ c.target_fits.ensures c.if-not-target_fits.true-raw refl)
+returns-then-not-target_fits c =
+    let e : refusal_number Target ≡ clear_color_check c.args.width c.args.height (length c.args.colors.now) c.args.depths_len c.args.scissor = leave _ c.target_fits.ensures c.if-not-target_fits.true-raw refl in
+    record { answer = e; colors_after = no _ (refused_test Target _ e) refl }
 
 pub returns-then-not-scissor_fits : goal.returns-then-not-scissor_fits
 unfolding clear_color_check clear_color_of
-returns-then-not-scissor_fits c = refused _ _ Scissor (stay _ c.target_fits.ensures c.if-not-target_fits.false-raw (leave _ c.scissor_fits.ensures c.if-not-scissor_fits.true-raw refl))
+returns-then-not-scissor_fits c =
+    let e : refusal_number Scissor ≡ clear_color_check c.args.width c.args.height (length c.args.colors.now) c.args.depths_len c.args.scissor = stay _ c.target_fits.ensures c.if-not-target_fits.false-raw (leave _ c.scissor_fits.ensures c.if-not-scissor_fits.true-raw refl) in
+    record { answer = e; colors_after = no _ (refused_test Scissor _ e) refl }
 
 pub clear_color_box-requires : goal.clear_color_box-requires
 clear_color_box-requires c = (target_is _ _ _ _ (passed c.target_fits.ensures c.if-not-target_fits.false-raw)).2
 
 pub returns : goal.returns
 unfolding clear_color_check clear_color_of
-returns c = done _ (stay _ c.target_fits.ensures c.if-not-target_fits.false-raw (stay _ c.scissor_fits.ensures c.if-not-scissor_fits.false-raw refl)) c.clear_color_box.ensures
+returns c =
+    let e : 0 ≡ clear_color_check c.args.width c.args.height (length c.args.colors.now) c.args.depths_len c.args.scissor = stay _ c.target_fits.ensures c.if-not-target_fits.false-raw (stay _ c.scissor_fits.ensures c.if-not-scissor_fits.false-raw refl) in
+    record { answer = e; colors_after = yes _ (done_test _ e) c.clear_color_box.ensures }

@@ -1,7 +1,12 @@
 use mathlib.Core.Path.{refl}
 use borrow.Author.Rules.{rules}
 use Rattle.answers.specs.declared.Refusal.TheVariants.{Target, Scissor, Float}
-use Rattle.lists.proofs.Choice.{stay, leave}
+use Prim.Native.Nat.{ℕ}
+use mathlib.Core.Path.{◌≡◌}
+use lib.ListN.{length}
+use Rattle.answers.specs.Numbers.{refusal_number}
+use Rattle.answers.proofs.Answered.{refused_test, done_test}
+use Rattle.lists.proofs.Choice.{yes, no, stay, leave}
 use Rattle.render_target.specs.Clear.{clear_depth_check}
 use Rattle.render_target.specs.Clear.{clear_depth_of}
 use Rattle.scissor.proofs.Outcome.{refused, done, target_is, passed}
@@ -9,19 +14,27 @@ use Rattle.render_target.proofs.clear_depth.Goals as goal
 
 pub returns-then-not-target_fits : goal.returns-then-not-target_fits
 unfolding clear_depth_check clear_depth_of
-returns-then-not-target_fits c = refused _ _ Target (leave _ c.target_fits.ensures c.if-not-target_fits.true-raw refl)
+returns-then-not-target_fits c =
+    let e : refusal_number Target ≡ clear_depth_check c.args.width c.args.height c.args.colors_len (length c.args.depths.now) c.args.value c.args.scissor = leave _ c.target_fits.ensures c.if-not-target_fits.true-raw refl in
+    record { answer = e; depths_after = no _ (refused_test Target _ e) refl }
 
 pub returns-then-not-scissor_fits : goal.returns-then-not-scissor_fits
 unfolding clear_depth_check clear_depth_of
-returns-then-not-scissor_fits c = refused _ _ Scissor (stay _ c.target_fits.ensures c.if-not-target_fits.false-raw (leave _ c.scissor_fits.ensures c.if-not-scissor_fits.true-raw refl))
+returns-then-not-scissor_fits c =
+    let e : refusal_number Scissor ≡ clear_depth_check c.args.width c.args.height c.args.colors_len (length c.args.depths.now) c.args.value c.args.scissor = stay _ c.target_fits.ensures c.if-not-target_fits.false-raw (leave _ c.scissor_fits.ensures c.if-not-scissor_fits.true-raw refl) in
+    record { answer = e; depths_after = no _ (refused_test Scissor _ e) refl }
 
 pub returns-then-not-is_bounded : goal.returns-then-not-is_bounded
 unfolding clear_depth_check clear_depth_of
-returns-then-not-is_bounded c = refused _ _ Float (stay _ c.target_fits.ensures c.if-not-target_fits.false-raw (stay _ c.scissor_fits.ensures c.if-not-scissor_fits.false-raw (leave _ c.is_bounded.ensures c.if-not-is_bounded.true-raw refl)))
+returns-then-not-is_bounded c =
+    let e : refusal_number Float ≡ clear_depth_check c.args.width c.args.height c.args.colors_len (length c.args.depths.now) c.args.value c.args.scissor = stay _ c.target_fits.ensures c.if-not-target_fits.false-raw (stay _ c.scissor_fits.ensures c.if-not-scissor_fits.false-raw (leave _ c.is_bounded.ensures c.if-not-is_bounded.true-raw refl)) in
+    record { answer = e; depths_after = no _ (refused_test Float _ e) refl }
 
 pub clear_depth_box-requires : goal.clear_depth_box-requires
 clear_depth_box-requires c = (target_is _ _ _ _ (passed c.target_fits.ensures c.if-not-target_fits.false-raw)).3
 
 pub returns : goal.returns
 unfolding clear_depth_check clear_depth_of
-returns c = done _ (stay _ c.target_fits.ensures c.if-not-target_fits.false-raw (stay _ c.scissor_fits.ensures c.if-not-scissor_fits.false-raw (stay _ c.is_bounded.ensures c.if-not-is_bounded.false-raw refl))) c.clear_depth_box.ensures
+returns c =
+    let e : 0 ≡ clear_depth_check c.args.width c.args.height c.args.colors_len (length c.args.depths.now) c.args.value c.args.scissor = stay _ c.target_fits.ensures c.if-not-target_fits.false-raw (stay _ c.scissor_fits.ensures c.if-not-scissor_fits.false-raw (stay _ c.is_bounded.ensures c.if-not-is_bounded.false-raw refl)) in
+    record { answer = e; depths_after = yes _ (done_test _ e) c.clear_depth_box.ensures }

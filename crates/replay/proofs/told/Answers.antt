@@ -4,5 +4,4 @@ use Rattle.replay.proofs.told.Goals as goal
 
 pub returns : goal.returns
 unfolding told_of
-returns c =
-    rw (c.sum_bytes.ensures, c.step.ensures, c.wrapping_add_u64-4.ensures, c.wrapping_add_u64-3.ensures, c.wrapping_add_u64-2.ensures, c.wrapping_add_u64.ensures, c.one_if.ensures)
+returns c = cc

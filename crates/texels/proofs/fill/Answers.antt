@@ -10,24 +10,14 @@ use mathlib.Core.List.{◌++◌}
 use mathlib.Core.Path.{◌≡◌, refl, ◌∙◌}
 use Rattle.texels.proofs.fill.Goals as goal
 
--- the i-th texel lies within the data
-within : (c : tie.In-loop invariant_loop decreases_loop)
-    → c.before.loop.i * texel_bytes c.before.before.before.before.before.args.t + texel_bytes
-    c.before.before.before.before.before.args.t
-    ≤ length c.before.before.before.before.before.args.s.now
-within c =
-    let p5 = c.before.before.before.before.before in
-    let a = p5.args in
-    omega (arith, row_in c.before.loop.i a.count (texel_bytes a.t) 0 (texel_bytes a.t) (search rules) (search rules))
-
 pub loop-i-init : goal.loop-i-init
 loop-i-init c = (search rules, refl, flat_none 4 (nth_texel _ _) (nth_four _ _) _)
 
 pub overflow_mul-i : goal.overflow_mul-i
-overflow_mul-i c = rw c.texel_bytes-bytes.ensures (omega (arith, within c))
+overflow_mul-i c = rw c.texel_bytes-bytes.ensures (omega (arith, row_in c.loop-i.i c.args.count (texel_bytes c.args.t) 0 (texel_bytes c.args.t) (search rules) (search rules)))
 
 pub texel_at-c-requires : goal.texel_at-c-requires
-texel_at-c-requires c = rw c.texel_bytes-bytes.ensures (within c)
+texel_at-c-requires c = rw c.texel_bytes-bytes.ensures (omega (arith, row_in c.loop-i.i c.args.count (texel_bytes c.args.t) 0 (texel_bytes c.args.t) (search rules) (search rules)))
 
 pub loop-i-preserved : goal.loop-i-preserved
 unfolding nth_texel
