@@ -38,8 +38,8 @@ unfoldable pub depth_at : Raster → PerCorner → Float
 depth_at t w = sum_of w (per_corner t.a.z t.b.z t.c.z)
 
 -- the interpolated 1/w
-unfoldable pub inv_wat : Raster → PerCorner → Float
-inv_wat t w = sum_of w (per_corner t.a.inv_w t.b.inv_w t.c.inv_w)
+unfoldable pub inv_w_at : Raster → PerCorner → Float
+inv_w_at t w = sum_of w (per_corner t.a.inv_w t.b.inv_w t.c.inv_w)
 
 -- raster.rs, raster_clipped: iw <= 0.0 || !iw.is_finite() skips the pixel
 unfoldable pub usable : Float → Bool

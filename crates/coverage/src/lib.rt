@@ -3,7 +3,7 @@
 
 ghost use Rattle.std.specs.Prelude.{◌≡◌, ◌<◌};
 ghost use Rattle.gradients.specs.Gradients.{sum_of, per_corner};
-ghost use Rattle.coverage.specs.Coverage.{centre_of, edge_of, weights_of, covered_by, depth_at, inv_wat, usable, shares_of, color_of};
+ghost use Rattle.coverage.specs.Coverage.{centre_of, edge_of, weights_of, covered_by, depth_at, inv_w_at, usable, shares_of, color_of};
 
 use gradients::{PerCorner, TriangleDerivatives};
 use screen::ScreenVertex;
@@ -80,7 +80,7 @@ pub fn depth_at(t: Raster, w: PerCorner) -> f32
 }
 
 pub fn inv_w_at(t: Raster, w: PerCorner) -> f32
-    ensures { result ≡ inv_wat t w }
+    ensures { result ≡ inv_w_at t w }
 {
     gradients::weighted_sum(
         w,

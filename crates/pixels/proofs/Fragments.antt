@@ -14,7 +14,7 @@ use Rattle.settings.specs.declared.TextureStage.{TextureStage}
 use Rattle.fragment.specs.Fragment.{depth_passes, alpha_passes, fogged_of}
 use Rattle.gradients.specs.declared.PerCorner.{PerCorner}
 use Rattle.coverage.specs.declared.Primitive.{Primitive}
-use Rattle.coverage.specs.Coverage.{depth_at, inv_wat, usable, color_of}
+use Rattle.coverage.specs.Coverage.{depth_at, inv_w_at, usable, color_of}
 use Rattle.stages.specs.Stages.{stage_at, texture_at, coordinates_of, stage_color, stage_step, stages_color}
 use Rattle.pixels.specs.declared.Fragment.TheVariants.{Dropped, Kept}
 use Rattle.pixels.specs.Way.{Drawing, drawing, reaches, shares, shaded_of, fog_depth_of, finished, fragment_of}
@@ -63,11 +63,11 @@ module _ (store : List ℕ) (d : Drawing) (t : Primitive) (w : PerCorner) (store
   unfolding fragment_of reaches
   depth_fails e = rw e
 
-  pub unusable : depth_passes d.state (depth_at t.raster w) stored ≡ true → usable (inv_wat t.raster w) ≡ false → Dropped ≡ fragment_of store d t w stored
+  pub unusable : depth_passes d.state (depth_at t.raster w) stored ≡ true → usable (inv_w_at t.raster w) ≡ false → Dropped ≡ fragment_of store d t w stored
   unfolding fragment_of reaches
   unusable e f = rw (e, f)
 
-  pub reached : depth_passes d.state (depth_at t.raster w) stored ≡ true → usable (inv_wat t.raster w) ≡ true
+  pub reached : depth_passes d.state (depth_at t.raster w) stored ≡ true → usable (inv_w_at t.raster w) ≡ true
       → finished d.state (depth_at t.raster w) (fog_depth_of t w) (shaded_of store d t w) ≡ fragment_of store d t w stored
   unfolding fragment_of reaches
   reached e f = rw (e, f)

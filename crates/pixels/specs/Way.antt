@@ -12,7 +12,7 @@ use Rattle.gradients.specs.Gradients.{per_corner, sum_of}
 use Rattle.frames.specs.State.{Pixel, pixel_at}
 use Rattle.frames.specs.Gather.{Drawn, Frag, put_pixel}
 use Rattle.coverage.specs.declared.Primitive.{Primitive}
-use Rattle.coverage.specs.Coverage.{weights_of, covered_by, depth_at, inv_wat, usable, shares_of, color_of}
+use Rattle.coverage.specs.Coverage.{weights_of, covered_by, depth_at, inv_w_at, usable, shares_of, color_of}
 use Rattle.stages.specs.Stages.{stages_color, stages_addresses}
 use Rattle.pixels.specs.declared.Fragment.{Fragment}
 use Rattle.pixels.specs.declared.Fragment.TheVariants.{Dropped, Kept}
@@ -31,11 +31,11 @@ drawing s l n xs = record { state = s; stages = l; count = n; textures = xs }
 
 -- whether a fragment gets as far as its stages: its depth passes, and 1/w can be used
 unfoldable pub reaches : PipelineState → Primitive → PerCorner → Float → Bool
-reaches s t w stored = cond (depth_passes s (depth_at t.raster w) stored) (usable (inv_wat t.raster w)) false
+reaches s t w stored = cond (depth_passes s (depth_at t.raster w) stored) (usable (inv_w_at t.raster w)) false
 
 -- 1 / (interpolated 1/w)
 abbrev pub rec_of : Primitive → PerCorner → Float
-rec_of t w = one32 ⊘ inv_wat t.raster w
+rec_of t w = one32 ⊘ inv_w_at t.raster w
 
 abbrev pub shares : Primitive → PerCorner → PerCorner
 shares t w = shares_of t.raster w (rec_of t w)

@@ -12,7 +12,7 @@ use Rattle.gradients.specs.declared.PerCorner.{PerCorner}
 use Rattle.frames.specs.State.{pixel_at}
 use Rattle.frames.specs.Gather.{put_color}
 use Rattle.coverage.specs.declared.Primitive.{Primitive}
-use Rattle.coverage.specs.Coverage.{weights_of, covered_by, depth_at, inv_wat, usable, color_of}
+use Rattle.coverage.specs.Coverage.{weights_of, covered_by, depth_at, inv_w_at, usable, color_of}
 use Rattle.pixels.specs.declared.Fragment.TheVariants.{Kept}
 use Rattle.pixels.specs.Way.{drawing, fragment_of, blended_of, written_of, pixel_of, drawn_to}
 use Rattle.plain_pixels.specs.Solid.{solid_of, solid_color}
@@ -60,7 +60,7 @@ module _ (s : PipelineState) (t : Primitive) (width py px : ℕ) (cs : List ℕ)
   unfolding alpha_passes
   untested_passes alpha = rw (solid_is s e).untested
 
-  solid_fragment : (stored : Float) → depth_passes s (depth_at t.raster w) stored ≡ true → usable (inv_wat t.raster w) ≡ true
+  solid_fragment : (stored : Float) → depth_passes s (depth_at t.raster w) stored ≡ true → usable (inv_w_at t.raster w) ≡ true
       → fragment_of [] (drawing s [] 0 []) t w stored ≡ Kept (depth_at t.raster w) (color_of false w t.a.color t.b.color t.c.color)
   solid_fragment stored h k =
       let f = solid_is s e in
@@ -73,7 +73,7 @@ module _ (s : PipelineState) (t : Primitive) (width py px : ℕ) (cs : List ℕ)
   unfolding put_color written_of blended_of solid_color color_of
   solid_colors z = let f = solid_is s e in rw (f.opaque, f.red, f.green, f.blue, f.alpha)
 
-  pub solid_kept : covered_by w ≡ true → depth_passes s (depth_at t.raster w) (get_or ds at nan) ≡ true → usable (inv_wat t.raster w) ≡ true
+  pub solid_kept : covered_by w ≡ true → depth_passes s (depth_at t.raster w) (get_or ds at nan) ≡ true → usable (inv_w_at t.raster w) ≡ true
       → drawn_to (set (set (set (set cs (at * 4) (solid_color t).r) (at * 4 + 1) (solid_color t).g) (at * 4 + 2) (solid_color t).b) (at * 4 + 3) (solid_color t).a)
       (set ds at (written_of s (depth_at t.raster w) (color_of false w t.a.color t.b.color t.c.color) (pixel_at [] ds at)).depth) (n + 1)
       ≡ pixel_of [] (drawing s [] 0 []) t width py px (drawn_to cs ds n)

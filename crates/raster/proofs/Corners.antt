@@ -29,7 +29,7 @@ use Rattle.setup.proofs.Outcomes.{first_undivided, second_undivided, third_undiv
 use Rattle.frames.specs.State.{Pixel, pixel_at}
 use Rattle.frames.specs.Gather.{Drawn, Frag, put_pixel}
 use Rattle.coverage.specs.declared.Primitive.{Primitive}
-use Rattle.coverage.specs.Coverage.{edge_of, weights_of, covered_by, depth_at, inv_wat, usable}
+use Rattle.coverage.specs.Coverage.{edge_of, weights_of, covered_by, depth_at, inv_w_at, usable}
 use Rattle.pixels.specs.declared.Fragment.TheVariants.{Dropped}
 use Rattle.stages.specs.Stages.{stages_addresses}
 use Rattle.pixels.specs.Way.{Drawing, reaches, rec_of, fragment_of, left_by, frag_at, pixel_of}
@@ -118,13 +118,13 @@ never true = refl
 never false = refl
 
 module _ (store : List ℕ) (d : Drawing) (t : Primitive) (b : Bool) (e : t.raster.inv_area ≡ inf b) where
-  unreached : (px py : ℕ) (stored : Float) → usable (inv_wat t.raster (weights_of t.raster px py)) ≡ false
+  unreached : (px py : ℕ) (stored : Float) → usable (inv_w_at t.raster (weights_of t.raster px py)) ≡ false
       → fragment_of store d t (weights_of t.raster px py) stored ≡ Dropped
   unfolding fragment_of reaches
   unreached px py stored h = rw (h, never (depth_passes d.state (depth_at t.raster (weights_of t.raster px py)) stored))
 
-  unusable : (px py : ℕ) → ((weights_of t.raster px py).a ≡ nan) ⊎ ((weights_of t.raster px py).b ≡ nan) → usable (inv_wat t.raster (weights_of t.raster px py)) ≡ false
-  unfolding inv_wat
+  unusable : (px py : ℕ) → ((weights_of t.raster px py).a ≡ nan) ⊎ ((weights_of t.raster px py).b ≡ nan) → usable (inv_w_at t.raster (weights_of t.raster px py)) ≡ false
+  unfolding inv_w_at
   unusable px py (inl h) = nan_unusable _ (nan_first (weights_of t.raster px py) _ h)
   unusable px py (inr h) = nan_unusable _ (nan_second (weights_of t.raster px py) _ h)
 

@@ -55,7 +55,7 @@ decode_block-requires c =
 
 pub loop-bx-preserved : goal.loop-bx-preserved
 loop-bx-preserved c =
-    (search rules, c.decode_block.auto.1.1.1.0 ∙ c.loop-bx.invariant.1, rw (← iter_more, ← c.loop-bx.invariant.2) c.decode_block.ensures)
+    (search rules, c.decode_block.auto.out ∙ c.loop-bx.invariant.1, rw (← iter_more, ← c.loop-bx.invariant.2) c.decode_block.ensures)
 
 pub returns : goal.returns
 unfolding put_row

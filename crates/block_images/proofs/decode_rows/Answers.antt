@@ -33,7 +33,7 @@ decode_row-requires c =
 
 pub loop-by-preserved : goal.loop-by-preserved
 loop-by-preserved c =
-    (search rules, c.decode_row.auto.1.1.0 ∙ c.loop-by.invariant.1, rw (← iter_more, ← c.loop-by.invariant.2) c.decode_row.ensures)
+    (search rules, c.decode_row.auto.out ∙ c.loop-by.invariant.1, rw (← iter_more, ← c.loop-by.invariant.2) c.decode_row.ensures)
 
 pub returns : goal.returns
 unfolding put_rows

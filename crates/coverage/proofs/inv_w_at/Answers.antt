@@ -1,7 +1,7 @@
-use Rattle.coverage.specs.Coverage.{inv_wat}
+use Rattle.coverage.specs.Coverage.{inv_w_at}
 use borrow.Author.Rules.{rules}
 use Rattle.coverage.proofs.inv_w_at.Goals as goal
 
 pub returns : goal.returns
-unfolding inv_wat
+unfolding inv_w_at
 returns c = c.weighted_sum.ensures

@@ -47,7 +47,7 @@ loop-x-preserved c =
     let a = c.args in
     let f = entry_at a.bits a.table.now a.s.now a.at in (
       search rules,
-      c.put_entry.auto.1.1.0 ∙ c.loop-x.invariant.1,
+      c.put_entry.auto.out ∙ c.loop-x.invariant.1,
       rw (c.put_entry.ensures, c.loop-x.invariant.2, c.index_in-i.ensures.0)
           (row_more 4 f (entry_four a.bits a.table.now a.s.now a.at) a.out.now a.to c.loop-x.x (omega arith)),
     )

@@ -62,7 +62,7 @@ pub loop-y-preserved : goal.loop-y-preserved
 loop-y-preserved c =
     let a = c.args in (
       search rules,
-      c.decode_row.auto.1.1.1.1.0 ∙ c.loop-y.invariant.1,
+      c.decode_row.auto.out ∙ c.loop-y.invariant.1,
       rw (c.decode_row.ensures, c.loop-y.invariant.2)
           (flat_more (a.w * 4) (λ j. flat a.w (entry_at a.bits a.table.now a.s.now (a.start + j * c.row_bytes-row.result)))
           (λ j. length_flat 4 (entry_at a.bits a.table.now a.s.now (a.start + j * c.row_bytes-row.result))

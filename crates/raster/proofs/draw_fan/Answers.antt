@@ -31,7 +31,7 @@ overflow_step-i c = let few = corners_few _ _ c.args.a c.args.b c.args.c c.clip_
 
 pub loop-i-preserved : goal.loop-i-preserved
 unfolding fan_step
-loop-i-preserved c = (fill_more c.loop-i.invariant.0 (omega (arith, c.loop-i-test.true, c.loop-i.invariant)) (c.raster_clipped-n.ensures.drawn ∙ rw (c.corner-third.ensures, c.corner-second.ensures, c.corner-first.ensures)) c.raster_clipped-n.auto.colors c.raster_clipped-n.auto.1.0, omega (arith, c.raster_clipped-n.ensures.count), c.loop-i.invariant.2)
+loop-i-preserved c = (fill_more c.loop-i.invariant.0 (omega (arith, c.loop-i-test.true, c.loop-i.invariant)) (c.raster_clipped-n.ensures.drawn ∙ rw (c.corner-third.ensures, c.corner-second.ensures, c.corner-first.ensures)) c.raster_clipped-n.auto.colors c.raster_clipped-n.auto.depths, omega (arith, c.raster_clipped-n.ensures.count), c.loop-i.invariant.2)
 
 pub shape_of-colors : goal.shape_of-colors
 shape_of-colors c = c.loop-i.invariant.0.colors_long

@@ -18,7 +18,7 @@ pub fill_row-n-requires : goal.fill_row-n-requires
 fill_row-n-requires c = record { bounds = (c.requires.bounds, c.solid_color-color.ensures); lengths = ((omega (arith, c.requires), omega (arith, c.requires), omega (arith, c.requires), omega (arith, c.requires, c.loop-py.invariant)), (omega (arith, c.requires, c.loop-py.invariant.0.depths_long, row_within c.args.width c.loop-py-test.true), omega (arith, c.requires, c.loop-py.invariant.0.depths_long, c.loop-py.invariant.0.colors_long))) }
 
 pub loop-py-preserved : goal.loop-py-preserved
-loop-py-preserved c = (fill_more c.loop-py.invariant.0 c.loop-py-test.true c.fill_row-n.ensures.drawn c.fill_row-n.auto.colors c.fill_row-n.auto.1.0, omega (arith, c.fill_row-n.ensures.count), omega (arith, c.fill_row-n.ensures.count), c.loop-py.invariant.3)
+loop-py-preserved c = (fill_more c.loop-py.invariant.0 c.loop-py-test.true c.fill_row-n.ensures.drawn c.fill_row-n.auto.colors c.fill_row-n.auto.depths, omega (arith, c.fill_row-n.ensures.count), omega (arith, c.fill_row-n.ensures.count), c.loop-py.invariant.3)
 
 pub shape_of-colors : goal.shape_of-colors
 shape_of-colors c = c.loop-py.invariant.0.colors_long

@@ -17,7 +17,7 @@ pub draw_pixel-n-requires : goal.draw_pixel-n-requires
 draw_pixel-n-requires c = record { bounds = c.requires.bounds; lengths = ((omega (arith, c.requires), omega (arith, c.requires), omega (arith, c.requires), omega (arith, c.requires, c.loop-px.invariant)), (omega (arith, c.requires, c.loop-px.invariant.0.depths_long), omega (arith, c.requires, c.loop-px.invariant.0.depths_long, c.loop-px.invariant.0.colors_long))) }
 
 pub loop-px-preserved : goal.loop-px-preserved
-loop-px-preserved c = let k = pixel_count _ _ _ _ _ _ _ c.draw_pixel-n.ensures in (fill_more c.loop-px.invariant.0 c.loop-px-test.true c.draw_pixel-n.ensures c.draw_pixel-n.auto.colors c.draw_pixel-n.auto.1.0, omega (arith, k), omega (arith, k))
+loop-px-preserved c = let k = pixel_count _ _ _ _ _ _ _ c.draw_pixel-n.ensures in (fill_more c.loop-px.invariant.0 c.loop-px-test.true c.draw_pixel-n.ensures c.draw_pixel-n.auto.colors c.draw_pixel-n.auto.depths, omega (arith, k), omega (arith, k))
 
 pub shape_of-colors : goal.shape_of-colors
 shape_of-colors c = c.loop-px.invariant.0.colors_long
