@@ -18,7 +18,7 @@ pub draw_left-requires : goal.draw_left-requires
 draw_left-requires c =
     let t = target_is c.args.width c.args.height _ _ c.requires.target in
     let b = box_inside c.args.width c.args.height c.args.state.scissor (sym c.in-Box.is ∙ c.scissor_bounds.ensures) in
-    (c.thresholds-table.ensures, (c.requires.stages_fit, ((b.1, omega (arith, b.3, t.1), t.0), (rows_fit c.args.width c.args.height b.3 t.3, omega (arith, t.2, t.3)))))
+    record { thresholds = c.thresholds-table.ensures; stages_fit = c.requires.stages_fit; bounds = (b.1, omega (arith, b.3, t.1), t.0); lengths = (rows_fit c.args.width c.args.height b.3 t.3, omega (arith, t.2, t.3)) }
 
 pub returns : goal.returns
 returns c = c.draw_left.ensures ∙ rw c.view_of-view.ensures (is_in_box _ (drawing c.args.state c.args.stages c.args.count c.args.textures) c.args.width c.args.height c.args.a c.args.b c.args.c _ (was_so c.viewport_draws.ensures c.if-not-viewport_draws.false-raw) (sym c.scissor_bounds.ensures ∙ c.in-Box.is))

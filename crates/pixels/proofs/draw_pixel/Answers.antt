@@ -13,13 +13,13 @@ pub returns-in_default : goal.returns-in_default
 returns-in_default c = dropped _ (drawing c.args.state c.args.stages c.args.count c.args.textures) c.args.t c.args.width c.args.py c.args.px _ _ _ (was_so (c.is_covered.ensures ∙ rw c.weights_at-w.ensures) c.if-not-is_covered.false-raw) (sym (c.fragment_at.ensures ∙ rw c.weights_at-w.ensures) ∙ c.in_default.is)
 
 pub write_color-requires : goal.write_color-requires
-write_color-requires c = omega (arith, c.requires.lengths.1)
+write_color-requires c = omega (arith, c.requires.lengths)
 
 pub write_depth-requires : goal.write_depth-requires
-write_depth-requires c = omega (arith, c.requires.lengths.1)
+write_depth-requires c = omega (arith, c.requires.lengths)
 
 pub overflow_add-result : goal.overflow_add-result
-overflow_add-result c = omega (arith, c.requires.lengths.0.3)
+overflow_add-result c = omega (arith, c.requires.bounds.3)
 
 pub returns : goal.returns
 returns c = rw (c.write_color.ensures, c.write_depth.ensures) (kept _ (drawing c.args.state c.args.stages c.args.count c.args.textures) c.args.t c.args.width c.args.py c.args.px _ _ _ _ _ (was_so (c.is_covered.ensures ∙ rw c.weights_at-w.ensures) c.if-not-is_covered.false-raw) (sym (c.fragment_at.ensures ∙ rw c.weights_at-w.ensures) ∙ c.in-Kept.is))

@@ -24,7 +24,7 @@ pub corner-third-requires : goal.corner-third-requires
 corner-third-requires c = let few = corners_few _ _ c.args.a c.args.b c.args.c c.clip_triangle-corners.ensures in (search rules, omega (arith, few, c.loop-i-test.true, c.loop-i.invariant.2))
 
 pub raster_clipped-n-requires : goal.raster_clipped-n-requires
-raster_clipped-n-requires c = let few = corners_few _ _ c.args.a c.args.b c.args.c c.clip_triangle-corners.ensures in (c.requires.0, (c.requires.bounds, ((omega (arith, c.requires), omega (arith, c.requires), omega (arith, c.requires), omega (arith, few, c.loop-i.invariant)), (omega (arith, c.requires, c.loop-i.invariant.0.depths_long), omega (arith, c.requires, c.loop-i.invariant.0.depths_long, c.loop-i.invariant.0.colors_long)))))
+raster_clipped-n-requires c = let few = corners_few _ _ c.args.a c.args.b c.args.c c.clip_triangle-corners.ensures in record { thresholds = c.requires.thresholds; stages_fit = c.requires.stages_fit; bounds = (omega (arith, c.requires), omega (arith, c.requires), omega (arith, c.requires), omega (arith, few, c.loop-i.invariant)); lengths = (omega (arith, c.requires, c.loop-i.invariant.0.depths_long), omega (arith, c.requires, c.loop-i.invariant.0.depths_long, c.loop-i.invariant.0.colors_long)) }
 
 pub overflow_step-i : goal.overflow_step-i
 overflow_step-i c = let few = corners_few _ _ c.args.a c.args.b c.args.c c.clip_triangle-corners.ensures in omega (arith, few, c.loop-i-test.true, c.loop-i.invariant.2)

@@ -6,7 +6,7 @@ use borrow.Author.Rules.{rules}
 use Rattle.raster.proofs.draw_left.Goals as goal
 
 pub raster_clipped-requires : goal.raster_clipped-requires
-raster_clipped-requires c = (c.requires.0, (c.requires.bounds, ((omega (arith, c.requires), omega (arith, c.requires), omega (arith, c.requires), omega arith), c.requires.lengths.1)))
+raster_clipped-requires c = record { thresholds = c.requires.thresholds; stages_fit = c.requires.stages_fit; bounds = (omega (arith, c.requires), omega (arith, c.requires), omega (arith, c.requires), omega arith); lengths = c.requires.lengths }
 
 pub returns-then-all_inside : goal.returns-then-all_inside
 returns-then-all_inside c = c.raster_clipped.ensures.drawn ∙ whole_drawn _ (drawing c.args.state c.args.stages c.args.count c.args.textures) c.args.view c.args.within c.args.width c.args.a c.args.b c.args.c _ (sym c.all_inside.ensures ∙ c.if-all_inside.true)

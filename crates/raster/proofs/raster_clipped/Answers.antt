@@ -12,7 +12,7 @@ returns-in_default c = record { drawn = nothing_drawn _ (drawing c.args.state c.
 pub fill-requires : goal.fill-requires
 fill-requires c =
     let w = setup_within _ _ _ _ c.args.within _ _ _ (sym c.setup_triangle.ensures ∙ c.in-Draws.is) in
-    (c.requires.0, (c.requires.bounds, ((omega (arith, c.requires, w.x_to), omega (arith, c.requires, w.y_to), omega (arith, c.requires), omega (arith, c.requires)), (omega (arith, c.requires, mul-le-mul_right c.args.width w.y_to), omega (arith, c.requires)))))
+    record { thresholds = c.requires.thresholds; stages_fit = c.requires.stages_fit; bounds = (omega (arith, c.requires, w.x_to), omega (arith, c.requires, w.y_to), omega (arith, c.requires), omega (arith, c.requires)); lengths = (omega (arith, c.requires, mul-le-mul_right c.args.width w.y_to), omega (arith, c.requires)) }
 
 pub returns : goal.returns
 returns c = record { drawn = c.fill.ensures.drawn ∙ rw c.primitive-t.ensures (filled _ (drawing c.args.state c.args.stages c.args.count c.args.textures) c.args.view c.args.within c.args.width c.args.a c.args.b c.args.c _ (sym c.setup_triangle.ensures ∙ c.in-Draws.is)); count = c.fill.ensures.count }

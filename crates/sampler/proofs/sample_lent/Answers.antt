@@ -16,12 +16,12 @@ returns-then-first-eq0-2 c = c.white_texel-then-first-eq0-2.ensures ∙ incomple
 pub chosen_levels-chosen-requires : goal.chosen_levels-chosen-requires
 chosen_levels-chosen-requires c =
     let x = c.args.texture in
-    record { thresholds = c.requires.0; top_in = (readable _ x c.requires.places_known (both_sides x c.if-first-eq0.false c.if-first-eq0-2.false) c.eleven.ensures).few }
+    record { thresholds = c.requires.thresholds; top_in = (readable _ x c.requires.valid (both_sides x c.if-first-eq0.false c.if-first-eq0-2.false) c.eleven.ensures).few }
 
 pub sample_chosen-requires : goal.sample_chosen-requires
 sample_chosen-requires c =
     let x = c.args.texture in
-    (readable _ x c.requires.places_known (both_sides x c.if-first-eq0.false c.if-first-eq0-2.false) c.eleven.ensures, (rw c.chosen_levels-chosen.ensures (chosen_within _ _ _ _ _ _), (c.requires.sides_known.0, c.requires.sides_known.1)))
+    record { readable = readable _ x c.requires.valid (both_sides x c.if-first-eq0.false c.if-first-eq0-2.false) c.eleven.ensures; chosen_within = rw c.chosen_levels-chosen.ensures (chosen_within _ _ _ _ _ _); places_known = c.requires.places_known; sides_known = c.requires.sides_known }
 
 pub returns : goal.returns
 unfolding levels_for level_of levels_of
