@@ -6,7 +6,7 @@ use borrow.Author.Rules.{rules}
 use Rattle.replay_texture.proofs.put_layout.Given as goal
 
 abbrev pub invariant-loop-i : goal.invariant-loop-i
-invariant-loop-i l = (l.i ≤ 244) × (length «record» ≡ length l.initial.record)
+invariant-loop-i l = (l.i ≤ 244) × (length l.record ≡ length l.initial.record)
 
 abbrev pub decreases-loop-i : goal.decreases-loop-i
 decreases-loop-i l = 244 - l.i
