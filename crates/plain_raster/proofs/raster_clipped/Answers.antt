@@ -13,7 +13,7 @@ returns-in_default c = record { drawn = nothing_drawn [] (drawing c.args.state [
 pub fill-requires : goal.fill-requires
 fill-requires c =
     let w = setup_within _ _ _ _ c.args.within _ _ _ (sym c.setup_triangle.ensures ∙ c.in-Draws.is) in
-    record { bounds = sym c.is_solid.ensures ∙ c.if-is_solid.true; lengths = ((omega (arith, c.requires, w.x_to), omega (arith, c.requires, w.y_to), omega (arith, c.requires), omega (arith, c.requires)), (omega (arith, c.requires, mul-le-mul_right c.args.width w.y_to), omega (arith, c.requires))) }
+    record { solid = sym c.is_solid.ensures ∙ c.if-is_solid.true; bounds = (omega (arith, c.requires, w.x_to), omega (arith, c.requires, w.y_to), omega (arith, c.requires), omega (arith, c.requires)); lengths = (omega (arith, c.requires, mul-le-mul_right c.args.width w.y_to), omega (arith, c.requires)) }
 
 pub returns-then-is_solid : goal.returns-then-is_solid
 returns-then-is_solid c = record { drawn = c.fill.ensures.drawn ∙ rw c.primitive-t.ensures (filled [] (drawing c.args.state [] 0 []) c.args.view c.args.within c.args.width c.args.a c.args.b c.args.c _ (sym c.setup_triangle.ensures ∙ c.in-Draws.is)); count = c.fill.ensures.count }

@@ -19,10 +19,10 @@ pub returns-then-not-is_usable : goal.returns-then-not-is_usable
 returns-then-not-is_usable c = dropped [] (drawing c.args.state [] 0 []) c.args.t c.args.width c.args.py c.args.px _ _ _ (was_so (c.is_covered.ensures ∙ rw c.weights_at-w.ensures) c.if-not-is_covered.false-raw) (sym (unusable [] (drawing c.args.state [] 0 []) c.args.t (weights_of c.args.t.raster c.args.px c.args.py) _ (was_so (c.depth_passes.ensures ∙ rw (c.depth_at-z.ensures, c.weights_at-w.ensures)) c.if-not-depth_passes.false-raw) (was_not (c.is_usable.ensures ∙ rw (c.inv_w_at.ensures, c.weights_at-w.ensures)) c.if-not-is_usable.true-raw)))
 
 pub write_depth-requires : goal.write_depth-requires
-write_depth-requires c = omega (arith, c.requires.lengths.1)
+write_depth-requires c = omega (arith, c.requires.lengths)
 
 pub overflow_add-result : goal.overflow_add-result
-overflow_add-result c = omega (arith, c.requires.lengths.0.3)
+overflow_add-result c = omega (arith, c.requires.bounds.3)
 
 pub returns : goal.returns
-returns c = rw (c.put_bytes.ensures, c.write_depth.ensures, c.color_at.ensures, c.depth_at-z.ensures, c.weights_at-w.ensures, c.requires.bounds.1) (solid_kept c.args.state c.args.t c.args.width c.args.py c.args.px _ _ _ c.requires.bounds.0 (was_so (c.is_covered.ensures ∙ rw c.weights_at-w.ensures) c.if-not-is_covered.false-raw) (was_so (c.depth_passes.ensures ∙ rw (c.depth_at-z.ensures, c.weights_at-w.ensures)) c.if-not-depth_passes.false-raw) (was_so (c.is_usable.ensures ∙ rw (c.inv_w_at.ensures, c.weights_at-w.ensures)) c.if-not-is_usable.false-raw))
+returns c = rw (c.put_bytes.ensures, c.write_depth.ensures, c.color_at.ensures, c.depth_at-z.ensures, c.weights_at-w.ensures, c.requires.solid.1) (solid_kept c.args.state c.args.t c.args.width c.args.py c.args.px _ _ _ c.requires.solid.0 (was_so (c.is_covered.ensures ∙ rw c.weights_at-w.ensures) c.if-not-is_covered.false-raw) (was_so (c.depth_passes.ensures ∙ rw (c.depth_at-z.ensures, c.weights_at-w.ensures)) c.if-not-depth_passes.false-raw) (was_so (c.is_usable.ensures ∙ rw (c.inv_w_at.ensures, c.weights_at-w.ensures)) c.if-not-is_usable.false-raw))

@@ -15,7 +15,7 @@ unfolding fill_of
 loop-py-init c = (record { rest = refl; colors_long = refl; depths_long = refl }, omega arith, omega arith, refl)
 
 pub fill_row-n-requires : goal.fill_row-n-requires
-fill_row-n-requires c = record { bounds = (c.requires.bounds, c.solid_color-color.ensures); lengths = ((omega (arith, c.requires), omega (arith, c.requires), omega (arith, c.requires), omega (arith, c.requires, c.loop-py.invariant)), (omega (arith, c.requires, c.loop-py.invariant.0.depths_long, row_within c.args.width c.loop-py-test.true), omega (arith, c.requires, c.loop-py.invariant.0.depths_long, c.loop-py.invariant.0.colors_long))) }
+fill_row-n-requires c = record { solid = (c.requires.solid, c.solid_color-color.ensures); bounds = (omega (arith, c.requires), omega (arith, c.requires), omega (arith, c.requires), omega (arith, c.requires, c.loop-py.invariant)); lengths = (omega (arith, c.requires, c.loop-py.invariant.0.depths_long, row_within c.args.width c.loop-py-test.true), omega (arith, c.requires, c.loop-py.invariant.0.depths_long, c.loop-py.invariant.0.colors_long)) }
 
 pub loop-py-preserved : goal.loop-py-preserved
 loop-py-preserved c = (fill_more c.loop-py.invariant.0 c.loop-py-test.true c.fill_row-n.ensures.drawn c.fill_row-n.auto.colors c.fill_row-n.auto.depths, omega (arith, c.fill_row-n.ensures.count), omega (arith, c.fill_row-n.ensures.count), c.loop-py.invariant.3)

@@ -14,7 +14,7 @@ unfolding row_of
 loop-px-init c = (record { rest = refl; colors_long = refl; depths_long = refl }, omega arith, omega arith)
 
 pub draw_pixel-n-requires : goal.draw_pixel-n-requires
-draw_pixel-n-requires c = record { bounds = c.requires.bounds; lengths = ((omega (arith, c.requires), omega (arith, c.requires), omega (arith, c.requires), omega (arith, c.requires, c.loop-px.invariant)), (omega (arith, c.requires, c.loop-px.invariant.0.depths_long), omega (arith, c.requires, c.loop-px.invariant.0.depths_long, c.loop-px.invariant.0.colors_long))) }
+draw_pixel-n-requires c = record { solid = c.requires.solid; bounds = (omega (arith, c.requires), omega (arith, c.requires), omega (arith, c.requires), omega (arith, c.requires, c.loop-px.invariant)); lengths = (omega (arith, c.requires, c.loop-px.invariant.0.depths_long), omega (arith, c.requires, c.loop-px.invariant.0.depths_long, c.loop-px.invariant.0.colors_long)) }
 
 pub loop-px-preserved : goal.loop-px-preserved
 loop-px-preserved c = let k = pixel_count _ _ _ _ _ _ _ c.draw_pixel-n.ensures in (fill_more c.loop-px.invariant.0 c.loop-px-test.true c.draw_pixel-n.ensures c.draw_pixel-n.auto.colors c.draw_pixel-n.auto.depths, omega (arith, k), omega (arith, k))
