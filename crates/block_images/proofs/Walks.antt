@@ -15,7 +15,6 @@ use Rattle.blocks.specs.declared.Block.{Block}
 use Rattle.blocks.specs.declared.Block.TheVariants.{Dxt1Rgb, Dxt1Rgba, Dxt3, Dxt5, AtcRgb, AtcExplicit, AtcInterpolated}
 use Rattle.blocks.specs.Blocks.{block_texel, block_bytes}
 use Rattle.lists.proofs.Cells.{cell_same, cell_other}
-use Rattle.texels.specs.Image.{image}
 use Rattle.texels.proofs.Images.{image_of_texels}
 use Rattle.block_images.specs.Walk.{blocks_over, texel_in_blocks, block_image, put_texel, put_nth, put_block, put_row, put_rows}
 

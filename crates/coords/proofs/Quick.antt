@@ -1,7 +1,7 @@
 -- The floor of an f32 between -2 ^ 22 and 2 ^ 22 as a whole number and as a float, by the last bits of a sum with 2 ^ 23. Assumes nothing.
 use Prim.Native.Nat.{ℕ, zero, suc, ◌+◌, ◌-◌, ◌*◌, ◌/◌, ◌^◌, ◌≤◌, ◌<◌, min}
 use mathlib.Core.Path.{◌≡◌, refl, sym, ap, subst, ◌∙◌}
-use mathlib.Core.Bool.{Bool, true, false, not, ◌&&◌}
+use mathlib.Core.Bool.{Bool, true, false, ◌&&◌}
 use lib.Dec.{T, lit≤, eqb}
 use lib.IntN.{ℤ, pos, negsuc, neg_ℤ}
 use lib.Ieee.{Float, nan, inf, fin, up, down, lt, eq, neg, add, sub, round, of_bits, of_int, in_float, to_unsigned, to_signed, binary32}

@@ -1,6 +1,6 @@
 -- A finite f64 above 1, read from its bits: the exponent's field is 1023 or more, and the value is the digits, with the leading one, times a power of two.
 -- Assumes nothing.
-use Rattle.std.proofs.Common.{◌≡◌, ℕ, zero, suc, ◌+◌, ◌-◌, ◌*◌, ◌/◌, ◌%◌, ◌^◌, ◌<◌, ◌≤◌, Bool, true, false, cond, not, T, eqb, ltb, leb, pos, sym, ap, ◌∙◌, subst, subst₂, lt_of_lt_of_le, le_of_suc-le-suc, le_of_lt, mod-lt, mod-eq_of_lt, mul_comm, add_comm, lt_of_mul-lt-mul_right, mul-lt-mul_of_pos_right, lt_of_not-le, mul-one, not-le_of_lt, arith, lit≤, ltb→lt, pow_pos, pow_mono, shl_lt, le-ltb, leb-false}
+use Rattle.std.proofs.Common.{◌≡◌, ℕ, zero, suc, ◌+◌, ◌-◌, ◌*◌, ◌/◌, ◌%◌, ◌^◌, ◌<◌, ◌≤◌, Bool, true, false, cond, not, T, eqb, leb, pos, sym, ap, ◌∙◌, subst, subst₂, lt_of_lt_of_le, le_of_suc-le-suc, le_of_lt, mod-lt, mod-eq_of_lt, mul_comm, add_comm, lt_of_mul-lt-mul_right, mul-lt-mul_of_pos_right, lt_of_not-le, mul-one, not-le_of_lt, arith, lit≤, ltb→lt, pow_pos, pow_mono, shl_lt, le-ltb, leb-false}
 use borrow.Author.Tests.{lt-leb}
 use lib.Ieee.{Float, nan, inf, fin, up, down, binary64, lt, odd, is_nan, fits, of_fields, of_bits, to_bits, nan_bits}
 use lib.Ieee.Exact.{HasValue, odd_sign}

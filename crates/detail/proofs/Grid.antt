@@ -1,6 +1,6 @@
 -- Every f64 of 1 or more is a multiple of 2 ^ -52, so a table's entry is the first f64 that reaches its power of two as soon as
 -- the multiple before it does not. Assumes nothing.
-use Rattle.std.proofs.Common.{◌≡◌, ℕ, zero, suc, ◌+◌, ◌-◌, ◌*◌, ◌/◌, ◌%◌, ◌^◌, ◌<◌, ◌≤◌, Bool, true, false, ◌&&◌, T, eqb, ltb, leb, List, length, ℤ, pos, negsuc, sym, ap, ◌∙◌, subst, subst₂, le_trans, lt_of_lt_of_le, lt_of_le_of_lt, le_of_lt, mul-le-mul_right, mul_assoc, lt_of_mul-lt-mul_right, mul-lt-mul_of_pos_right, one-mul, lt_of_not-le, le-div_iff_mul-le, mul-one, mul_right_comm, not-le_of_lt, arith, ltb→lt, leb→le, pow_pos, pow_mono, pow-add}
+use Rattle.std.proofs.Common.{◌≡◌, ℕ, zero, suc, ◌+◌, ◌-◌, ◌*◌, ◌/◌, ◌%◌, ◌^◌, ◌<◌, ◌≤◌, Bool, true, false, ◌&&◌, T, eqb, ltb, leb, List, length, ℤ, pos, negsuc, sym, ap, ◌∙◌, subst, subst₂, le_trans, lt_of_lt_of_le, lt_of_le_of_lt, mul-le-mul_right, mul_assoc, lt_of_mul-lt-mul_right, mul-lt-mul_of_pos_right, one-mul, lt_of_not-le, le-div_iff_mul-le, mul-one, mul_right_comm, not-le_of_lt, arith, ltb→lt, leb→le, pow_pos, pow_mono, pow-add}
 use native.Mathlib.Decide.{dec_lt}
 use native.Mathlib.Nat.{pow-le-pow_left, pow-lt-pow_left, one-le-pow}
 use lib.Ieee.{Float, nan, inf, fin, up, down, binary64, lt, fits}

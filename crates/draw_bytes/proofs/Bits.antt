@@ -1,9 +1,9 @@
 -- The bits of a signed number and of a float, as the machine makes them: u is what it reads where v stands. Assumes nothing.
 use Prim.Native.Nat.{ℕ, suc, ◌-◌, ◌≤◌}
 use mathlib.Core.Path.{◌≡◌, refl, sym, ap, ◌∙◌, subst}
-use mathlib.Core.Bool.{true, false, not}
+use mathlib.Core.Bool.{true, false}
 use native.Mathlib.Omega.{arith}
-use lib.Dec.{T, ltb}
+use lib.Dec.{T}
 use lib.IntN.{ℤ, pos, negsuc, ◌-ℤ◌, nat_abs}
 use lib.Signed.{lt_z, non_neg}
 use lib.Ieee as Ieee

@@ -13,7 +13,7 @@ use Rattle.levels.specs.Levels.{level_of}
 use Rattle.texture.specs.Define.{in_run, define_writes}
 use Rattle.texture.specs.Patch.{in_rows, patch_writes}
 use Rattle.texture.specs.Parameters.{set_check}
-use Rattle.frames.specs.State.{Place, sizes, pixel, byte, texture, refused}
+use Rattle.frames.specs.State.{Place, sizes, pixel, byte, texture}
 use Rattle.guests.specs.Calls.{Shared, clear_color_number, clear_depth_number, sides_check, define_number, patch_number, clear_color, clear_depth, define_level, patch_level, set_parameter}
 
 module _ (s : Shared) (n k x y w h place : ℕ) (rgba : List ℕ) where

@@ -1,13 +1,13 @@
 -- The three ways of a pixel: not covered, its fragment dropped, its fragment kept. Assumes nothing.
 use mathlib.Core.Path.{◌≡◌, refl}
 use mathlib.Core.Bool.{true, false}
-use mathlib.Core.List.{List, []}
+use mathlib.Core.List.{List}
 use Prim.Native.Nat.{ℕ, ◌+◌, ◌*◌}
 use lib.ListN.{get_or, set}
 use lib.Ieee.{Float, nan}
 use Rattle.settings.specs.declared.Rgba.{Rgba}
 use Rattle.settings.specs.declared.PipelineState.{PipelineState}
-use Rattle.frames.specs.State.{Pixel, pixel_at}
+use Rattle.frames.specs.State.{pixel_at}
 use Rattle.frames.specs.Gather.{put_color, put_pixel}
 use Rattle.coverage.specs.declared.Primitive.{Primitive}
 use Rattle.coverage.specs.Coverage.{weights_of, covered_by}

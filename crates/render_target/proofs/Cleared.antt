@@ -7,10 +7,10 @@ use native.Mathlib.Omega.{arith}
 use native.Mathlib.Decide.{dec_lt}
 use native.Mathlib.Nat.{le_refl, mul-zero, mod-lt, div-add-mod', div-lt_iff_lt-mul, le-div_iff_mul-le}
 use lib.Arith.{digits_div, digits_mod}
-use lib.Dec.{leb, ltb, leb-zero}
+use lib.Dec.{ltb, leb-zero}
 use lib.ListN.{length, get_or}
 use borrow.Author.Tests.{le-leb, lt-ltb, lt-leb, le-ltb}
-use Rattle.lists.specs.Lists.{tab, turns, between}
+use Rattle.lists.specs.Lists.{turns, between}
 use Rattle.lists.proofs.Tables.{length_tab}
 use Rattle.lists.proofs.Choice.{true_false}
 use Rattle.settings.specs.declared.Scissor.{Scissor}

@@ -1,11 +1,10 @@
 -- Rows of a box filled in turn: one row more, and what stands at each place in the end. Assumes nothing.
-use Prim.Native.Nat.{ℕ, suc, ◌+◌, ◌-◌, ◌*◌, ◌≤◌, ◌<◌}
+use Prim.Native.Nat.{ℕ, ◌+◌, ◌*◌, ◌≤◌, ◌<◌}
 use mathlib.Core.Path.{◌≡◌, sym, ◌∙◌}
 use mathlib.Core.List.{List}
 use native.Mathlib.Omega.{arith}
 use native.Mathlib.Nat.{mul-one, suc-mul, mul-le-mul_right}
 use lib.ListN.{length}
-use Rattle.lists.specs.Lists.{between}
 use Rattle.lists.proofs.Turns.{between_more, between_done}
 use Rattle.render_target.specs.Clear.{span_of, rows_of}
 use Rattle.render_target.proofs.Spans.{length_span}

@@ -2,7 +2,7 @@
 use Prim.Native.Nat.{ℕ, ◌+◌}
 use mathlib.Core.Path.{◌≡◌, refl, sym, ap, ◌∙◌}
 use mathlib.Core.Bool.{true, false}
-use mathlib.Core.List.{List, ◌++◌, map, map-append}
+use mathlib.Core.List.{List, ◌++◌, map-append}
 use lib.ListN.{length, get_or, take, drop}
 use lib.Seq.{take_at, drop_at}
 use lib.Ieee.{Float}

@@ -1,10 +1,10 @@
 -- A level's texels, read from the part of the store that holds it, are those at its addresses in the store. Assumes nothing.
 use Prim.Native.Nat.{ℕ, ◌+◌, ◌*◌, ◌≤◌, ◌<◌}
-use mathlib.Core.Path.{◌≡◌, refl, ap, ◌∙◌}
+use mathlib.Core.Path.{◌≡◌, refl, ◌∙◌}
 use mathlib.Core.List.{List}
 use native.Mathlib.Nat.{add_assoc}
 use native.Mathlib.Omega.{arith}
-use lib.ListN.{length, get_or, take, drop, length-take, length-drop}
+use lib.ListN.{length, get_or, length-take, length-drop}
 use lib.Seq.{get_or-take, get_or-drop}
 use lib.Ieee.{Float}
 use Rattle.levels.specs.declared.MipLevel.{MipLevel}

@@ -5,11 +5,11 @@ use mathlib.Core.List.{List}
 use Prim.Native.Nat.{ℕ, ◌+◌, ◌<◌}
 use native.Mathlib.Decide.{dec_lt}
 use native.Mathlib.Omega.{arith}
-use lib.Dec.{leb, ltb, eqb}
-use lib.ListN.{length, get_or, set, length-set, get_or-eq_default}
+use lib.Dec.{ltb, eqb}
+use lib.ListN.{length, get_or, length-set, get_or-eq_default}
 use lib.Seq.{get_or-set_same, get_or-set_other}
 use borrow.Author.Tests.{eqb-true, eqb-false, lt-ltb, le-ltb, le-leb, eq-eqb, ne_eqb}
-use Rattle.lists.specs.Lists.{tab, any, all}
+use Rattle.lists.specs.Lists.{any, all}
 use Rattle.lists.proofs.Tables.{length_tab, get_or_tab}
 use Rattle.lists.proofs.Members.{get_or_all}
 use Rattle.levels.specs.declared.MipLevel.{MipLevel}

@@ -6,7 +6,7 @@ use Prim.Native.Nat.{ℕ, zero, suc, ◌+◌, ◌-◌, ◌*◌, ◌≤◌, ◌<�
 use native.Mathlib.Nat.{le_refl}
 use native.Mathlib.Decide.{dec_lt}
 use native.Mathlib.Omega.{arith}
-use lib.Dec.{leb, ltb, eqb}
+use lib.Dec.{leb, eqb}
 use lib.ListN.{length, get_or, drop, length-drop}
 use lib.Seq.{paste, length-paste}
 use borrow.Author.Tests.{leb-true, ltb-true, ltb-false, eqb-true, le-leb}
@@ -18,7 +18,7 @@ use Rattle.levels.specs.declared.MipLevel.{MipLevel}
 use Rattle.levels.specs.declared.Texture.{Texture}
 use Rattle.levels.specs.Levels.{level_at, level_of, size_of}
 use Rattle.levels.proofs.Valid.{valid_level}
-use Rattle.texture.specs.Define.{define_check, define_store, define_record, Outcome, outcome, settle, define_of, in_run, define_writes}
+use Rattle.texture.specs.Define.{define_check, define_store, define_record, Outcome, outcome, define_of, in_run, define_writes}
 use Rattle.texture.specs.Patch.{patch_check, row_place, patch_row, patch_store, Patched, patched, patch_of, in_rows, patch_writes}
 use Rattle.texture.proofs.Defining.{sound, settle_done, settle_refused}
 use Rattle.texture.proofs.Patching.{patch_sound, patch_done, patch_refused}

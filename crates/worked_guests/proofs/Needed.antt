@@ -1,14 +1,13 @@
 -- Three premises are needed: without each the claim is false of a list of two or three calls that meets the others. Assumes nothing.
 use mathlib.Core.Path.{◌≡◌, refl, sym, ap, ◌∙◌, subst}
 use mathlib.Core.Logic.{inl, inr}
-use mathlib.Core.Bool.{false}
-use mathlib.Core.List.{List, [], ◌∷◌}
+use mathlib.Core.List.{List, ◌∷◌}
 use Prim.Native.Nat.{ℕ}
 use native.Mathlib.Omega.{arith}
 use Rattle.settings.specs.declared.ScissorBox.{ScissorBox}
 use Rattle.isolation.specs.Machine.{Guest, Turn, In, Machine, answers_of, alone, nobody}
 use Rattle.isolation.proofs.Alone.{moment_turn}
-use Rattle.frames.specs.State.{Place, texture, Answer, done, refused}
+use Rattle.frames.specs.State.{Place, Answer, done, refused}
 use Rattle.frames.specs.Windows.{machine}
 use Rattle.guests.specs.Calls.{Shared}
 use Rattle.guests.specs.Guests.{Call, meaning, InBox, InWindow, bad_target, no_drawing, no_scissor}

@@ -2,13 +2,13 @@
 use mathlib.Core.Path.{◌≡◌, refl, sym, ap, ◌∙◌, subst}
 use mathlib.Core.Logic.{◌⊎◌, inl, inr, ◌≢◌}
 use mathlib.Core.Bool.{true, false, ◌&&◌, true≢false}
-use mathlib.Core.List.{[], ◌∷◌}
+use mathlib.Core.List.{◌∷◌}
 use Prim.Native.Nat.{ℕ, zero, suc, ◌+◌, ◌-◌, ◌%◌, ◌/◌, ◌<◌, ◌≤◌}
 use native.Mathlib.Omega.{arith}
 use lib.Dec.{ltb, leb}
 use lib.IntN.{pos}
 use borrow.Author.Tests.{ltb-true, leb-true, lt-ltb}
-use Rattle.isolation.specs.Machine.{Guest, Moment, Machine, answers_of, answer, alone, only, WritesAt, ReadsAt}
+use Rattle.isolation.specs.Machine.{Guest, Moment, Machine, answers_of, answer, WritesAt, ReadsAt}
 use Rattle.frames.specs.State.{Place, texture, Answer, done, refused, is_refused}
 use Rattle.frames.specs.Windows.{machine, During, Disjoint, Inside, TexturesApart}
 use Rattle.settings.specs.declared.Scissor.TheVariants.{Within}

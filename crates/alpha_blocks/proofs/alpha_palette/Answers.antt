@@ -1,6 +1,5 @@
 use borrow.Author.Tests.{lt-ltb, le-ltb}
 use Rattle.alpha_blocks.specs.AlphaBlocks.{alpha_palette}
-use borrow.Author.Rules.{rules}
 use Rattle.alpha_blocks.proofs.alpha_palette.Goals as goal
 
 pub returns-then-a0-a1 : goal.returns-then-a0-a1

@@ -1,12 +1,10 @@
 use Rattle.alpha_blocks.specs.AlphaBlocks.{selector, alpha_selectors}
 use Rattle.lists.proofs.Tables.{tab_none, tab_more}
-use Rattle.lists.specs.Lists.{tab}
 use Rattle.alpha_blocks.proofs.Laws.{two_halves}
-use lib.ListN.{drop}
 use borrow.Author.Rules.{rules}
 use native.Mathlib.Omega.{arith}
-use Prim.Native.Nat.{◌+◌, ◌*◌, ◌-◌, ◌≤◌}
-use mathlib.Core.List.{◌++◌, append-nil}
+use Prim.Native.Nat.{◌+◌, ◌*◌}
+use mathlib.Core.List.{append-nil}
 use mathlib.Core.Path.{◌≡◌, ◌∙◌}
 use Rattle.alpha_blocks.proofs.alpha_selectors.Goals as goal
 

@@ -1,5 +1,4 @@
 use mathlib.Core.Path.{◌∙◌}
-use borrow.Author.Rules.{rules}
 use Rattle.alpha_blocks.proofs.explicit_alpha.Goals as goal
 
 pub returns : goal.returns

@@ -1,12 +1,11 @@
-use Prim.Native.Nat.{◌+◌, ◌*◌, ◌/◌, ◌%◌, ◌^◌, ◌-◌, ◌≤◌}
+use Prim.Native.Nat.{◌+◌, ◌*◌, ◌/◌, ◌%◌, ◌^◌}
 use Rattle.texels.specs.Texels.{expand4}
 use Rattle.alpha_blocks.specs.AlphaBlocks.{explicit_alpha}
 use Rattle.lists.proofs.Tables.{tab_none, tab_more}
-use Rattle.lists.specs.Lists.{tab}
-use lib.ListN.{drop, get_or}
+use lib.ListN.{get_or}
 use borrow.Author.Rules.{rules}
 use native.Mathlib.Omega.{arith}
-use mathlib.Core.List.{◌++◌, append-nil}
+use mathlib.Core.List.{append-nil}
 use mathlib.Core.Path.{◌≡◌, ◌∙◌}
 use Rattle.alpha_blocks.proofs.explicit_alpha_block.Goals as goal
 

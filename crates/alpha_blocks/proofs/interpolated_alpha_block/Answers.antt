@@ -1,7 +1,6 @@
 use mathlib.Core.Path.{◌∙◌}
 use Rattle.alpha_blocks.specs.AlphaBlocks.{interpolated_alpha}
 use Rattle.alpha_blocks.proofs.Laws.{three_bits}
-use borrow.Author.Rules.{rules}
 use Rattle.alpha_blocks.proofs.interpolated_alpha_block.Goals as goal
 
 pub chosen_alphas-requires : goal.chosen_alphas-requires

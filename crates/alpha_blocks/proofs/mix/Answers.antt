@@ -1,7 +1,6 @@
 use Rattle.alpha_blocks.proofs.Laws.{mixed_byte, sub_le, byte}
 use native.Mathlib.Nat.{mul-le-mul, le_refl}
 use native.Mathlib.Omega.{arith}
-use borrow.Author.Rules.{rules}
 use Rattle.alpha_blocks.proofs.mix.Goals as goal
 
 pub overflow_mul-result : goal.overflow_mul-result

@@ -1,6 +1,5 @@
 use mathlib.Core.Path.{◌∙◌}
 use Rattle.blocks.specs.Blocks.{block_texel}
-use borrow.Author.Rules.{rules}
 use Rattle.block_images.proofs.decode_block.Goals as goal
 
 pub returns : goal.returns

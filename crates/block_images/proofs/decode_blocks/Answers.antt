@@ -1,5 +1,4 @@
 use mathlib.Core.Path.{◌∙◌}
-use borrow.Author.Rules.{rules}
 use Rattle.blocks.specs.Blocks.{block_bytes, block_texel}
 use Rattle.block_images.proofs.Walks.{walk_image, block_four}
 use Rattle.block_images.proofs.decode_blocks.Goals as goal

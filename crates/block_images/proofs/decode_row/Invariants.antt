@@ -1,13 +1,9 @@
-use mathlib.Core.Path.{◌≡◌, refl, ◌∙◌}
-use Rattle.block_images.specs.Walk.{blocks_over, put_block, put_row}
-use Prim.Native.Nat.{◌+◌, ◌-◌, ◌*◌, ◌≤◌, ◌<◌}
-use native.Mathlib.Omega.{arith}
-use borrow.Author.Rules.{rules}
+use mathlib.Core.Path.{◌≡◌}
+use Rattle.block_images.specs.Walk.{put_block}
+use Prim.Native.Nat.{◌+◌, ◌-◌, ◌*◌, ◌≤◌}
 use lib.ListN.{length}
 use Rattle.lists.specs.Lists.{iter}
-use Rattle.lists.proofs.Turns.{iter_none, iter_more}
-use Rattle.blocks.specs.Blocks.{block_bytes, block_texel}
-use Rattle.block_images.proofs.Walks.{block_in, few_bytes, number_small, place_small}
+use Rattle.blocks.specs.Blocks.{block_texel}
 use Rattle.block_images.proofs.decode_row.Given as goal
 
 abbrev pub invariant-loop-bx : goal.invariant-loop-bx

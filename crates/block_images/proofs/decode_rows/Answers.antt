@@ -1,12 +1,10 @@
 use mathlib.Core.Path.{◌≡◌, refl, ◌∙◌}
-use Rattle.block_images.specs.Walk.{blocks_over, put_row, put_rows}
-use Prim.Native.Nat.{◌-◌, ◌≤◌, ◌<◌}
+use Rattle.block_images.specs.Walk.{blocks_over, put_rows}
+use Prim.Native.Nat.{◌<◌}
 use native.Mathlib.Omega.{arith}
 use borrow.Author.Rules.{rules}
-use lib.ListN.{length}
-use Rattle.lists.specs.Lists.{iter}
 use Rattle.lists.proofs.Turns.{iter_none, iter_more}
-use Rattle.blocks.specs.Blocks.{block_bytes, block_texel}
+use Rattle.blocks.specs.Blocks.{block_bytes}
 use Rattle.block_images.proofs.Walks.{row_of_blocks_in}
 use Rattle.block_images.proofs.decode_rows.Goals as goal
 

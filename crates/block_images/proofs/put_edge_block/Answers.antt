@@ -1,12 +1,8 @@
 use mathlib.Core.Path.{◌≡◌, refl, sym, ◌∙◌}
 use Rattle.block_images.specs.Walk.{put_nth, put_block}
-use Prim.Native.Nat.{◌-◌, ◌≤◌}
 use native.Mathlib.Omega.{arith}
 use borrow.Author.Rules.{rules}
-use lib.ListN.{length}
-use Rattle.lists.specs.Lists.{iter}
 use Rattle.lists.proofs.Turns.{iter_none, iter_more}
-use Rattle.blocks.specs.Blocks.{texel_from}
 use Rattle.block_images.proofs.put_edge_block.Goals as goal
 
 pub loop-i-init : goal.loop-i-init
@@ -30,13 +26,12 @@ put_texel-requires c =
 
 pub loop-i-preserved : goal.loop-i-preserved
 unfolding put_nth
-loop-i-preserved c =
-    (
-      search rules,
-      c.put_texel.auto.out ∙ c.loop-i.invariant.1,
-      rw (← iter_more, ← c.loop-i.invariant.2)
-          (c.put_texel.ensures ∙ rw c.texel_of-c.ensures),
-    )
+loop-i-preserved c = (
+  search rules,
+  c.put_texel.auto.out ∙ c.loop-i.invariant.1,
+  rw (← iter_more, ← c.loop-i.invariant.2)
+      (c.put_texel.ensures ∙ rw c.texel_of-c.ensures),
+)
 
 pub returns : goal.returns
 unfolding put_block

@@ -5,7 +5,6 @@ use native.Mathlib.Nat.{mul-le-mul}
 use lib.Arith.{digits_lt}
 use borrow.Author.Tests.{le-leb, lt-leb}
 use Rattle.lists.proofs.Choice.{yes, no}
-use borrow.Author.Rules.{rules}
 use Rattle.block_images.proofs.put_texel.Goals as goal
 
 pub returns-then-w-x : goal.returns-then-w-x

@@ -1,15 +1,8 @@
-use mathlib.Core.Path.{◌≡◌, refl, sym, ◌∙◌}
-use Rattle.block_images.specs.Walk.{put_texel, put_nth, put_block}
-use Prim.Native.Nat.{◌+◌, ◌-◌, ◌*◌, ◌/◌, ◌%◌, ◌≤◌, ◌<◌}
-use native.Mathlib.Nat.{mul-le-mul}
-use borrow.Author.Tests.{lt-leb}
-use lib.Arith.{digits_lt}
-use Rattle.lists.proofs.Choice.{no}
-use native.Mathlib.Omega.{arith}
-use borrow.Author.Rules.{rules}
+use mathlib.Core.Path.{◌≡◌}
+use Rattle.block_images.specs.Walk.{put_nth}
+use Prim.Native.Nat.{◌-◌, ◌≤◌}
 use lib.ListN.{length}
 use Rattle.lists.specs.Lists.{iter}
-use Rattle.lists.proofs.Turns.{iter_none, iter_more}
 use Rattle.blocks.specs.Blocks.{texel_from}
 use Rattle.block_images.proofs.put_whole_block.Given as goal
 

@@ -1,7 +1,6 @@
 use mathlib.Core.Path.{sym, ◌∙◌}
 use native.Mathlib.Omega.{arith}
 use Rattle.blocks.proofs.Laws.{eight_bytes}
-use borrow.Author.Rules.{rules}
 use Rattle.blocks.proofs.block_alpha.Goals as goal
 
 pub dxt1_alpha_block-requires : goal.dxt1_alpha_block-requires

@@ -1,6 +1,5 @@
 use mathlib.Core.Path.{sym, ◌∙◌}
 use Rattle.lists.proofs.Choice.{yes, no}
-use borrow.Author.Rules.{rules}
 use Rattle.blocks.proofs.block_rgb.Goals as goal
 
 pub returns-then-is_dxt : goal.returns-then-is_dxt

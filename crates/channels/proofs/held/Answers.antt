@@ -1,4 +1,3 @@
-use borrow.Author.Rules.{rules}
 use mathlib.Core.Path.{refl}
 use Rattle.lists.proofs.Choice.{yes, no}
 use Rattle.channels.proofs.Cuts.{cut_is_held}

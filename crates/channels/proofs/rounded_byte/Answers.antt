@@ -4,7 +4,6 @@ use lib.Ieee.{of_bits, lt}
 use native.Mathlib.Omega.{arith}
 use Rattle.lists.proofs.Choice.{yes, no}
 use Rattle.channels.proofs.Rounded.{doubled_number, doubled_byte, small}
-use borrow.Author.Rules.{rules}
 use Rattle.channels.proofs.rounded_byte.Goals as goal
 use Rattle.channels.proofs.rounded_byte.Goals.{then-r-t, else-r-t}
 

@@ -3,7 +3,6 @@ use lib.Ieee.{of_bits, lt}
 use native.Mathlib.Omega.{arith}
 use Rattle.lists.proofs.Choice.{yes, no}
 use Rattle.channels.proofs.Scaled.{scaled_number, scaled_byte}
-use borrow.Author.Rules.{rules}
 use Rattle.channels.proofs.to_byte.Goals as goal
 use Rattle.channels.proofs.to_byte.Goals.{then-r-t, else-r-t}
 

@@ -1,6 +1,5 @@
 use mathlib.Core.Path.{refl}
 use Rattle.channels.specs.Channel.{unit_of}
-use borrow.Author.Rules.{rules}
 use Rattle.channels.proofs.to_unit.Goals as goal
 
 pub returns : goal.returns

@@ -1,7 +1,6 @@
 use mathlib.Core.Path.{refl}
 use Rattle.clip.specs.Clip.{all_inside}
 use Rattle.lists.proofs.Choice.{stay, leave}
-use borrow.Author.Rules.{rules}
 use Rattle.clip.proofs.all_inside.Goals as goal
 
 pub returns-then-not-inside_frustum : goal.returns-then-not-inside_frustum

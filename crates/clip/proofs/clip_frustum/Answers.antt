@@ -1,11 +1,10 @@
-use mathlib.Core.Path.{◌≡◌, refl, sym, ap, ◌∙◌}
-use Prim.Native.Nat.{◌≤◌, ◌-◌}
+use mathlib.Core.Path.{refl, sym, ap, ◌∙◌}
 use native.Mathlib.Omega.{arith}
 use borrow.Author.Rules.{rules}
 use lib.ListN.{length}
 use Rattle.polygon.specs.Corners.{corners_of}
 use Rattle.polygon.proofs.Corners.{length_corners, corners_none}
-use Rattle.clip.specs.Clip.{clip_from, clipped}
+use Rattle.clip.specs.Clip.{clipped}
 use Rattle.clip.proofs.Laws.{caps, caps_below, caps_next, clip_on, clip_out, clip_end}
 use Rattle.clip.proofs.clip_frustum.Goals as goal
 

@@ -1,12 +1,9 @@
-use mathlib.Core.Path.{◌≡◌, refl, sym, ap, ◌∙◌}
+use mathlib.Core.Path.{◌≡◌}
 use Prim.Native.Nat.{◌≤◌, ◌-◌}
-use native.Mathlib.Omega.{arith}
-use borrow.Author.Rules.{rules}
 use lib.ListN.{length}
 use Rattle.polygon.specs.Corners.{corners_of}
-use Rattle.polygon.proofs.Corners.{length_corners, corners_none}
 use Rattle.clip.specs.Clip.{clip_from, clipped}
-use Rattle.clip.proofs.Laws.{caps, caps_below, caps_next, clip_on, clip_out, clip_end}
+use Rattle.clip.proofs.Laws.{caps}
 use Rattle.clip.proofs.clip_frustum.Given as goal
 
 abbrev pub invariant-loop-plane : goal.invariant-loop-plane

@@ -1,13 +1,9 @@
-use mathlib.Core.Path.{◌≡◌, ap, ◌∙◌}
-use mathlib.Core.Logic.{⊎_elim}
-use Prim.Native.Nat.{◌≤◌, ◌-◌, ◌+◌}
+use mathlib.Core.Path.{ap, ◌∙◌}
 use native.Mathlib.Omega.{arith}
 use borrow.Author.Rules.{rules}
-use lib.ListN.{drop}
 use Rattle.polygon.specs.Corners.{corners_of}
 use Rattle.polygon.proofs.Corners.{length_corners}
 use Rattle.vertices.specs.Vertex.{inside}
-use Rattle.clip.specs.Clip.{insides}
 use Rattle.clip.proofs.Laws.{insides_end}
 use Rattle.clip.proofs.Walks.{counted}
 use Rattle.clip.proofs.count_inside.Goals as goal
@@ -20,8 +16,8 @@ pub loop-i-preserved : goal.loop-i-preserved
 loop-i-preserved c =
     let e = counted c.args.plane c.args.len c.args.polygon.now c.loop-i.i c.loop-i-test.true (c.is_inside.ensures ∙ ap (inside c.args.plane) c.corner.ensures) in
     elim c.if-is_inside.branch [
-      then-is_inside w ↦ (omega arith, omega arith, omega (arith, rw w.if-is_inside.true at e))
-    | else-is_inside w ↦ (omega arith, omega arith, omega (arith, rw w.if-is_inside.false at e))
+      | then-is_inside w ↦ (omega arith, omega arith, omega (arith, rw w.if-is_inside.true at e))
+      | else-is_inside w ↦ (omega arith, omega arith, omega (arith, rw w.if-is_inside.false at e))
     ]
 
 pub returns : goal.returns

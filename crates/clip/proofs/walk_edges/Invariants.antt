@@ -1,10 +1,6 @@
-use Rattle.polygon.proofs.Corners.{length_corners}
-use Rattle.clip.proofs.Walks.{Walking, starts, ends, room_kept, room_cross, goes, this_corner, next_corner}
-use mathlib.Core.Path.{◌≡◌, ap}
-use Prim.Native.Nat.{◌≤◌, ◌-◌, ◌+◌}
-use native.Mathlib.Nat.{mod-lt}
-use native.Mathlib.Omega.{arith}
-use borrow.Author.Rules.{rules}
+use Rattle.clip.proofs.Walks.{Walking}
+use mathlib.Core.Path.{◌≡◌}
+use Prim.Native.Nat.{◌≤◌, ◌-◌}
 use lib.ListN.{length}
 use Rattle.polygon.specs.Corners.{corners_of}
 use Rattle.clip.proofs.walk_edges.Given as goal

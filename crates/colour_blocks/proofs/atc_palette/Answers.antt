@@ -1,6 +1,5 @@
 use borrow.Author.Tests.{lt-ltb, le-ltb}
 use Rattle.colour_blocks.specs.ColourBlocks.{atc_palette}
-use borrow.Author.Rules.{rules}
 use Rattle.colour_blocks.proofs.atc_palette.Goals as goal
 
 pub returns-then-c0-lt32768 : goal.returns-then-c0-lt32768

@@ -1,13 +1,9 @@
-use mathlib.Core.List.{[], ◌++◌, append-nil}
+use mathlib.Core.List.{◌++◌}
 use Rattle.alpha_blocks.specs.AlphaBlocks.{selector}
-use Rattle.colour_blocks.specs.ColourBlocks.{chosen}
-use Rattle.lists.proofs.Tables.{tab_none, tab_more}
 use Rattle.lists.specs.Lists.{tab}
 use lib.ListN.{drop, get_or}
-use borrow.Author.Rules.{rules}
-use native.Mathlib.Omega.{arith}
 use Prim.Native.Nat.{◌-◌, ◌≤◌}
-use mathlib.Core.Path.{◌≡◌, ◌∙◌}
+use mathlib.Core.Path.{◌≡◌}
 use Rattle.colour_blocks.proofs.chosen.Given as goal
 
 abbrev pub invariant-loop-i : goal.invariant-loop-i

@@ -1,6 +1,5 @@
 use mathlib.Core.Path.{◌∙◌}
 use Rattle.colour_blocks.specs.ColourBlocks.{dxt1_alpha}
-use borrow.Author.Rules.{rules}
 use Rattle.colour_blocks.proofs.dxt1_alpha_block.Goals as goal
 
 pub returns : goal.returns

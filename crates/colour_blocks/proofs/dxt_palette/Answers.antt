@@ -1,6 +1,5 @@
 use mathlib.Core.Path.{sym, ◌∙◌}
 use Rattle.colour_blocks.specs.ColourBlocks.{dxt_palette}
-use borrow.Author.Rules.{rules}
 use Rattle.colour_blocks.proofs.dxt_palette.Goals as goal
 
 pub returns-then-has_four : goal.returns-then-has_four

@@ -1,5 +1,4 @@
 use Rattle.colour_blocks.specs.ColourBlocks.{dxt}
-use borrow.Author.Rules.{rules}
 use Rattle.colour_blocks.proofs.dxt_rgb_block.Goals as goal
 
 pub returns : goal.returns

@@ -1,6 +1,5 @@
 use Rattle.lists.proofs.Choice.{no}
 use mathlib.Core.Path.{refl}
-use borrow.Author.Rules.{rules}
 use Rattle.colour_blocks.proofs.has_four.Goals as goal
 
 pub returns : goal.returns

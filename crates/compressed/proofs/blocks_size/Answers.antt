@@ -4,7 +4,6 @@ use Rattle.compressed.specs.Compressed.{size_of}
 use Prim.Native.Nat.{ℕ, ◌≤◌}
 use native.Mathlib.Nat.{mul-le-mul}
 use Rattle.block_images.proofs.Walks.{few_bytes}
-use borrow.Author.Rules.{rules}
 use Rattle.compressed.proofs.blocks_size.Goals as goal
 
 pub overflow_mul-result : goal.overflow_mul-result

@@ -3,7 +3,6 @@ use Rattle.compressed.specs.Compressed.{is_unknown, compressed_of}
 use Rattle.compressed.proofs.Checks.{size_9, size_14, size_0, size_refused, size_given}
 use Rattle.texels.proofs.Plains.{wide_above, high_above, none_above}
 use Rattle.answers.specs.declared.Refusal.TheVariants.{Side, Format}
-use borrow.Author.Rules.{rules}
 use Rattle.compressed.proofs.compressed_image_size.Goals as goal
 
 pub returns-then-width-gt1024 : goal.returns-then-width-gt1024

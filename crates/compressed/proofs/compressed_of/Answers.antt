@@ -1,6 +1,5 @@
 use Rattle.compressed.specs.Compressed.{compressed_of}
 use borrow.Author.Tests.{ne_eqb}
-use borrow.Author.Rules.{rules}
 use Rattle.compressed.proofs.compressed_of.Goals as goal
 
 pub returns-in-33776 : goal.returns-in-33776

@@ -4,7 +4,6 @@ use Rattle.compressed.proofs.Checks.{zero_wide, zero_high, no_zero, large_9, emp
 use Rattle.texels.proofs.Plains.{wide_above, high_above, none_above}
 use lib.ListN.{length}
 use Rattle.answers.specs.declared.Refusal.TheVariants.{Side}
-use borrow.Author.Rules.{rules}
 use Rattle.compressed.proofs.decode_compressed_to_rgba.Goals as goal
 
 pub returns-then-width-gt1024 : goal.returns-then-width-gt1024

@@ -5,7 +5,6 @@ use Prim.Native.Nat.{◌≤◌}
 use lib.ListN.{length}
 use Rattle.lists.proofs.Choice.{true_false}
 use Rattle.compressed.specs.declared.Compressed.{Compressed}
-use borrow.Author.Rules.{rules}
 use Rattle.compressed.proofs.decode_image.Goals as goal
 
 pub decode_blocks-requires : goal.decode_blocks-requires

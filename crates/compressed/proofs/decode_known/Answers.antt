@@ -4,7 +4,6 @@ use Rattle.compressed.proofs.Checks.{known_14, known_11, known_15, known_0, know
 use lib.ListN.{length}
 use native.Mathlib.Nat.{mul-le-mul}
 use Rattle.answers.specs.declared.Refusal.TheVariants.{Bytes, Format, Output}
-use borrow.Author.Rules.{rules}
 use Rattle.compressed.proofs.decode_known.Goals as goal
 
 pub returns-then-is_unknown : goal.returns-then-is_unknown

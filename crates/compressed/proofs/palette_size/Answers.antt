@@ -3,7 +3,6 @@ use native.Mathlib.Omega.{arith}
 use Prim.Native.Nat.{ℕ, ◌*◌, ◌≤◌}
 use native.Mathlib.Nat.{mul-le-mul}
 use Rattle.texels.proofs.Plains.{few_bytes}
-use borrow.Author.Rules.{rules}
 use Rattle.compressed.proofs.palette_size.Goals as goal
 
 pub overflow_mul-result : goal.overflow_mul-result

@@ -1,5 +1,4 @@
 use Rattle.compressed.specs.Compressed.{size_of}
-use borrow.Author.Rules.{rules}
 use Rattle.compressed.proofs.size_of.Goals as goal
 
 pub returns-in-Blocks : goal.returns-in-Blocks

@@ -1,4 +1,3 @@
-use borrow.Author.Rules.{rules}
 use native.Mathlib.Omega.{arith}
 use Rattle.coords.specs.Coords.{axis_at}
 use Rattle.coords.proofs.Quick.{floored_above, small_float}

@@ -1,4 +1,3 @@
-use borrow.Author.Rules.{rules}
 use native.Mathlib.Omega.{arith}
 use Rattle.coords.specs.Coords.{wrap_texel, rem_of, edge_of}
 use Rattle.coords.proofs.above_texel.Goals as goal

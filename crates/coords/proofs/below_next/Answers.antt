@@ -1,4 +1,3 @@
-use borrow.Author.Rules.{rules}
 use native.Mathlib.Omega.{arith}
 use Rattle.coords.proofs.Wraps.{first_in}
 use Rattle.coords.proofs.Steps.{below_more, below_repeat, below_edge}

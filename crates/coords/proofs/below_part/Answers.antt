@@ -1,5 +1,4 @@
 use lib.Ieee.{of_bits}
-use borrow.Author.Rules.{rules}
 use Rattle.coords.proofs.Quick.{below_part, below_whole}
 use Rattle.coords.proofs.below_part.Goals as goal
 

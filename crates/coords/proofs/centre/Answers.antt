@@ -1,4 +1,3 @@
-use borrow.Author.Rules.{rules}
 use Rattle.coords.specs.Coords.{centred}
 use Rattle.coords.proofs.centre.Goals as goal
 

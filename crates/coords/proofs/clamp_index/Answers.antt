@@ -1,5 +1,4 @@
 use native.Mathlib.Omega.{arith}
-use borrow.Author.Rules.{rules}
 use Rattle.coords.proofs.Wraps.{edge_negative, edge_positive}
 use Rattle.coords.proofs.clamp_index.Goals as goal
 

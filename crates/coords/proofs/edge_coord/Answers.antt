@@ -1,5 +1,4 @@
 use mathlib.Core.Path.{refl}
-use borrow.Author.Rules.{rules}
 use Rattle.lists.proofs.Choice.{yes, no}
 use Rattle.coords.specs.Coords.{edge_coord}
 use Rattle.coords.proofs.Sides.{side_fits}

@@ -1,4 +1,3 @@
-use borrow.Author.Rules.{rules}
 use Rattle.coords.specs.Coords.{axis_at}
 use Rattle.coords.proofs.far_axis.Goals as goal
 

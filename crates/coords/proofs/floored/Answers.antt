@@ -1,6 +1,5 @@
 use mathlib.Core.Path.{refl, sym}
 use native.Mathlib.Omega.{arith}
-use borrow.Author.Rules.{rules}
 use Rattle.coords.proofs.Quick.{floored_above, floored_below, small_float, minus_above}
 use Rattle.coords.proofs.floored.Goals as goal
 

@@ -1,4 +1,3 @@
-use borrow.Author.Rules.{rules}
 use mathlib.Core.Path.{sym, ◌∙◌}
 use Rattle.coords.specs.Coords.{axis_of, axis_at, first_of, second_of, weight_of, low_of}
 use Rattle.coords.proofs.linear_axes.Goals as goal

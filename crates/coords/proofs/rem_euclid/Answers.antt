@@ -1,6 +1,5 @@
 use native.Mathlib.Nat.{mod-lt}
 use native.Mathlib.Omega.{arith}
-use borrow.Author.Rules.{rules}
 use Rattle.coords.proofs.Wraps.{rem_negative, rem_positive}
 use Rattle.coords.proofs.rem_euclid.Goals as goal
 

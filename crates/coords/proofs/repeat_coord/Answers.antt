@@ -1,4 +1,3 @@
-use borrow.Author.Rules.{rules}
 use mathlib.Core.Path.{refl, ap, ◌∙◌}
 use lib.IntN.{ℤ}
 use native.Mathlib.Nat.{mod-lt}

@@ -1,4 +1,3 @@
-use borrow.Author.Rules.{rules}
 use Rattle.coords.proofs.Small.{side_pattern, side_is}
 use Rattle.coords.proofs.side.Goals as goal
 

@@ -1,4 +1,3 @@
-use borrow.Author.Rules.{rules}
 use Rattle.coords.proofs.Small.{small_above, small_below}
 use Rattle.coords.proofs.small_axis.Goals as goal
 

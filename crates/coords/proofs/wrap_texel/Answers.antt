@@ -1,5 +1,4 @@
 use mathlib.Core.Path.{◌∙◌}
-use borrow.Author.Rules.{rules}
 use Rattle.coords.specs.Coords.{wrap_texel}
 use Rattle.coords.proofs.wrap_texel.Goals as goal
 

@@ -4,7 +4,6 @@ use native.Mathlib.Omega.{arith}
 use lib.Dec.{T}
 use lib.Ieee.{in_float}
 use borrow.Author.Tests.{le-leb}
-use borrow.Author.Rules.{rules}
 use Rattle.coverage.proofs.centre.Goals as goal
 
 pub int_to_float-result : goal.int_to_float-result

@@ -1,7 +1,6 @@
 use mathlib.Core.Path.{refl}
 use Rattle.lists.proofs.Choice.{yes, no}
 use Rattle.coverage.specs.Coverage.{color_of}
-use borrow.Author.Rules.{rules}
 use Rattle.coverage.proofs.color_at.Goals as goal
 
 pub returns-then-smooth : goal.returns-then-smooth

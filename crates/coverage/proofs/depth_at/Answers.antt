@@ -1,5 +1,4 @@
 use Rattle.coverage.specs.Coverage.{depth_at}
-use borrow.Author.Rules.{rules}
 use Rattle.coverage.proofs.depth_at.Goals as goal
 
 pub returns : goal.returns

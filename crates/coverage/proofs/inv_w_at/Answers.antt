@@ -1,5 +1,4 @@
 use Rattle.coverage.specs.Coverage.{inv_w_at}
-use borrow.Author.Rules.{rules}
 use Rattle.coverage.proofs.inv_w_at.Goals as goal
 
 pub returns : goal.returns

@@ -1,5 +1,4 @@
 use Rattle.coverage.specs.Coverage.{weights_of}
-use borrow.Author.Rules.{rules}
 use Rattle.coverage.proofs.weights_at.Goals as goal
 
 pub returns : goal.returns

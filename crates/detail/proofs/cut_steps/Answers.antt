@@ -1,4 +1,4 @@
-use Rattle.std.proofs.Common.{T, sym, subst, arith, rules}
+use Rattle.std.proofs.Common.{T, sym, subst, arith}
 use lib.Ieee.{of_bits, div}
 use Rattle.detail.proofs.Cut.{cut_fin, cut_inf}
 use Rattle.detail.proofs.cut_steps.Goals as goal

@@ -1,4 +1,4 @@
-use Rattle.std.proofs.Common.{ℕ, ◌-◌, ◌*◌, ◌<◌, ◌≤◌, mod-lt, mul-le-mul_left, arith, rules}
+use Rattle.std.proofs.Common.{ℕ, ◌-◌, ◌*◌, ◌<◌, ◌≤◌, mod-lt, mul-le-mul_left, arith}
 use Rattle.detail.proofs.guess.Goals as goal
 
 small : (k : ℕ) → k < 4096 → k * (4096 - k) ≤ k * 4096

@@ -1,4 +1,4 @@
-use Rattle.std.proofs.Common.{sym, ◌∙◌, rules}
+use Rattle.std.proofs.Common.{sym, ◌∙◌}
 use lib.Ieee.{of_bits, div}
 use Rattle.detail.proofs.Squares.{squares, first_infinite, second_infinite}
 use Rattle.detail.proofs.pair.Goals as goal

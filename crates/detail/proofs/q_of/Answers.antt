@@ -1,4 +1,4 @@
-use Rattle.std.proofs.Common.{◌∙◌, rules}
+use Rattle.std.proofs.Common.{◌∙◌}
 use Rattle.detail.specs.Pairs.{q_of}
 use Rattle.detail.proofs.q_of.Goals as goal
 

@@ -1,4 +1,4 @@
-use Rattle.std.proofs.Common.{arith, rules}
+use Rattle.std.proofs.Common.{arith}
 use Rattle.detail.proofs.Fractions.{reach, lowest}
 use Rattle.detail.proofs.start.Goals as goal
 

@@ -1,6 +1,5 @@
-use Rattle.std.proofs.Common.{◌≡◌, ℕ, ◌-◌, ◌≤◌, T, sym, subst, arith}
+use Rattle.std.proofs.Common.{◌-◌, ◌≤◌}
 use Rattle.detail.specs.Steps.{Reached}
-use Rattle.detail.proofs.Fractions.{reach, stop, highest}
 use Rattle.detail.proofs.step_of.Given as goal
 
 abbrev pub invariant-loop-i : goal.invariant-loop-i

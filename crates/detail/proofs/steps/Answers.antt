@@ -1,4 +1,4 @@
-use Rattle.std.proofs.Common.{◌≡◌, ℕ, ◌+◌, ◌-◌, ◌*◌, ◌%◌, ◌^◌, ◌<◌, ◌≤◌, Bool, true, T, sym, subst, mod-lt, mul-pos, arith, pow_pos, rules}
+use Rattle.std.proofs.Common.{◌≡◌, ℕ, ◌+◌, ◌-◌, ◌*◌, ◌%◌, ◌^◌, ◌<◌, ◌≤◌, Bool, true, T, sym, subst, mod-lt, mul-pos, arith, pow_pos}
 use lib.Ieee.{binary64, to_bits, of_bits}
 use lib.Ieee.Bits.{to_bits-lt}
 use lib.Ieee.Positive.{positive_of_value}

@@ -1,6 +1,5 @@
 use Rattle.lists.specs.Lists.{tab}
 use Rattle.draw.specs.Draw.{bound_to}
-use borrow.Author.Rules.{rules}
 use Rattle.draw.proofs.bind.Goals as goal
 
 pub returns : goal.returns

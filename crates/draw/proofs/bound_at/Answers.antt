@@ -3,7 +3,6 @@ use native.Mathlib.Omega.{arith}
 use borrow.Author.Tests.{lt-ltb, le-ltb}
 use Rattle.lists.proofs.Choice.{yes, no}
 use Rattle.draw_checks.proofs.Passed.{unit_below}
-use borrow.Author.Rules.{rules}
 use Rattle.draw.proofs.bound_at.Goals as goal
 
 pub returns-then-i-count : goal.returns-then-i-count

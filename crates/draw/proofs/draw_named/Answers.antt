@@ -2,7 +2,6 @@ use mathlib.Core.Path.{sym, ap, ◌∙◌}
 use Rattle.answers.specs.Numbers.{number_of}
 use Rattle.draw_checks.proofs.Passed.{early_target, early_stages, stages_few, stages_do_fit, late_records}
 use Rattle.draw.proofs.Passed.{refused_late, drew_it}
-use borrow.Author.Rules.{rules}
 use Rattle.draw.proofs.draw_named.Goals as goal
 
 pub bind-textures-requires : goal.bind-textures-requires

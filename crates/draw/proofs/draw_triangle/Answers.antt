@@ -1,7 +1,6 @@
 use mathlib.Core.Path.{sym, ap, ◌∙◌}
 use Rattle.answers.specs.Numbers.{number_of}
 use Rattle.draw.proofs.Passed.{refused_early}
-use borrow.Author.Rules.{rules}
 use Rattle.draw.proofs.draw_triangle.Goals as goal
 
 pub draw_named-requires : goal.draw_named-requires

@@ -1,7 +1,6 @@
 use mathlib.Core.Path.{◌∙◌}
 use Rattle.scissor.proofs.Signs.{back32}
 use Rattle.draw_bytes.specs.Write.{number_words, box_words}
-use borrow.Author.Rules.{rules}
 use Rattle.draw_bytes.proofs.box_words.Goals as goal
 
 pub returns-in-Whole : goal.returns-in-Whole

@@ -1,8 +1,7 @@
-use mathlib.Core.List.{[], ◌∷◌}
+use mathlib.Core.List.{◌∷◌}
 use mathlib.Core.Path.{ap, ◌∙◌}
 use Rattle.scissor.proofs.Signs.{back32}
 use Rattle.draw_bytes.specs.Write.{bits_of, number_words}
-use borrow.Author.Rules.{rules}
 use Rattle.draw_bytes.proofs.number_words.Goals as goal
 
 pub returns : goal.returns

@@ -1,10 +1,7 @@
 use borrow.Author.Rules.{rules}
 use mathlib.Core.Path.{◌≡◌, refl, ◌∙◌}
-use mathlib.Core.List.{◌++◌}
-use Prim.Native.Nat.{◌-◌, ◌*◌, ◌≤◌}
 use native.Mathlib.Omega.{arith}
-use lib.ListN.{length, drop}
-use Rattle.lists.specs.Lists.{flat}
+use lib.ListN.{length}
 use Rattle.lists.proofs.Rows.{flat_none, flat_more, flat_all}
 use Rattle.draw_bytes.specs.Write.{word_bytes, word_bytes_at, bytes_of}
 use Rattle.draw_bytes.proofs.Words.{length_word}

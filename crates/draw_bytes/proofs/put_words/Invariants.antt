@@ -1,13 +1,9 @@
-use borrow.Author.Rules.{rules}
-use mathlib.Core.Path.{◌≡◌, refl, ◌∙◌}
+use mathlib.Core.Path.{◌≡◌}
 use mathlib.Core.List.{◌++◌}
 use Prim.Native.Nat.{◌-◌, ◌*◌, ◌≤◌}
-use native.Mathlib.Omega.{arith}
 use lib.ListN.{length, drop}
 use Rattle.lists.specs.Lists.{flat}
-use Rattle.lists.proofs.Rows.{flat_none, flat_more, flat_all}
-use Rattle.draw_bytes.specs.Write.{word_bytes, word_bytes_at, bytes_of}
-use Rattle.draw_bytes.proofs.Words.{length_word}
+use Rattle.draw_bytes.specs.Write.{word_bytes_at}
 use Rattle.draw_bytes.proofs.put_words.Given as goal
 
 abbrev pub invariant-loop-i : goal.invariant-loop-i

@@ -1,8 +1,7 @@
-use mathlib.Core.List.{[], ◌∷◌}
+use mathlib.Core.List.{◌∷◌}
 use mathlib.Core.Path.{ap, ◌∙◌}
 use lib.ListN.{get_or}
 use Rattle.draw_bytes.specs.Write.{switch_word, settings_words}
-use borrow.Author.Rules.{rules}
 use Rattle.draw_bytes.proofs.settings_words.Goals as goal
 
 pub returns : goal.returns

@@ -1,6 +1,5 @@
-use mathlib.Core.List.{[], ◌∷◌}
+use mathlib.Core.List.{◌∷◌}
 use Rattle.draw_bytes.specs.Write.{vertex_words}
-use borrow.Author.Rules.{rules}
 use Rattle.draw_bytes.proofs.vertex_words.Goals as goal
 
 pub returns : goal.returns

@@ -1,5 +1,4 @@
 use Rattle.draw_bytes.specs.Write.{word_bytes}
-use borrow.Author.Rules.{rules}
 use Rattle.draw_bytes.proofs.word_bytes.Goals as goal
 
 pub returns : goal.returns

@@ -1,6 +1,5 @@
 use mathlib.Core.Path.{ap, ◌∙◌}
 use Rattle.draw_bytes.specs.Write.{bytes_of}
-use borrow.Author.Rules.{rules}
 use Rattle.draw_bytes.proofs.write_stage.Goals as goal
 
 pub returns : goal.returns

@@ -2,7 +2,6 @@ use mathlib.Core.Path.{refl, sym, ap, ◌∙◌}
 use Rattle.answers.specs.Numbers.{number_of}
 use Rattle.lists.proofs.Choice.{stay, leave}
 use Rattle.draw_checks.proofs.Early.{early_rest, early_refused}
-use borrow.Author.Rules.{rules}
 use Rattle.draw_checks.proofs.check_early.Goals as goal
 
 pub returns-then-not-stages_fit : goal.returns-then-not-stages_fit

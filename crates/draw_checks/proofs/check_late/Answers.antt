@@ -1,7 +1,6 @@
 use mathlib.Core.Path.{refl}
 use Rattle.lists.proofs.Choice.{stay, leave}
 use Rattle.draw_checks.specs.Checks.{late_check}
-use borrow.Author.Rules.{rules}
 use Rattle.draw_checks.proofs.check_late.Goals as goal
 
 pub returns-then-not-records_fit : goal.returns-then-not-records_fit

@@ -1,7 +1,6 @@
 use mathlib.Core.Path.{refl}
 use Rattle.lists.proofs.Choice.{stay, leave}
 use Rattle.draw_checks.specs.Checks.{all_below, stages_fit, early_check}
-use borrow.Author.Rules.{rules}
 use Rattle.draw_checks.proofs.check_settings.Goals as goal
 
 pub returns-then-not-target_fits : goal.returns-then-not-target_fits

@@ -3,7 +3,6 @@ use Rattle.lists.specs.Lists.{all}
 use Rattle.lists.proofs.Choice.{stay, leave}
 use Rattle.draw_checks.proofs.Alls.{just}
 use Rattle.draw_checks.specs.Checks.{color_fits}
-use borrow.Author.Rules.{rules}
 use Rattle.draw_checks.proofs.color_fits.Goals as goal
 
 pub returns-then-not-is_bounded : goal.returns-then-not-is_bounded

@@ -1,7 +1,6 @@
 use mathlib.Core.Path.{refl}
 use Rattle.lists.proofs.Choice.{yes, no}
 use Rattle.draw_checks.specs.Checks.{fog_fits}
-use borrow.Author.Rules.{rules}
 use Rattle.draw_checks.proofs.fog_fits.Goals as goal
 
 pub returns-then-s : goal.returns-then-s

@@ -1,11 +1,8 @@
 use borrow.Author.Rules.{rules}
-use mathlib.Core.Path.{◌≡◌, refl, sym, ◌∙◌}
-use Prim.Native.Nat.{◌-◌, ◌≤◌}
+use mathlib.Core.Path.{refl, sym, ◌∙◌}
 use native.Mathlib.Omega.{arith}
 use borrow.Author.Tests.{not-true, not-false}
-use lib.ListN.{drop}
 use lib.Ieee.{nan}
-use Rattle.lists.specs.Lists.{all}
 use Rattle.lists.proofs.Search.{all_are_on, all_miss, all_end}
 use Rattle.floats.specs.Num.{bounded_of}
 use Rattle.draw_checks.proofs.four_fit.Goals as goal

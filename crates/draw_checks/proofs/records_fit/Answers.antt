@@ -1,12 +1,10 @@
 use borrow.Author.Rules.{rules}
 use mathlib.Core.Path.{◌≡◌, sym, ◌∙◌}
-use mathlib.Core.Bool.{true}
-use Prim.Native.Nat.{◌-◌, ◌≤◌}
 use native.Mathlib.Omega.{arith}
 use borrow.Author.Tests.{not-true, not-false}
 use Rattle.levels.specs.Levels.{valid_of}
 use Rattle.stages.specs.Stages.{texture_at}
-use Rattle.draw_checks.specs.Checks.{all_below, records_fit}
+use Rattle.draw_checks.specs.Checks.{records_fit}
 use Rattle.draw_checks.proofs.Below.{below_none, below_more, below_miss}
 use Rattle.draw_checks.proofs.records_fit.Goals as goal
 

@@ -1,13 +1,9 @@
-use borrow.Author.Rules.{rules}
-use mathlib.Core.Path.{◌≡◌, sym, ◌∙◌}
+use mathlib.Core.Path.{◌≡◌}
 use mathlib.Core.Bool.{true}
 use Prim.Native.Nat.{◌-◌, ◌≤◌}
-use native.Mathlib.Omega.{arith}
-use borrow.Author.Tests.{not-true, not-false}
 use Rattle.levels.specs.Levels.{valid_of}
 use Rattle.stages.specs.Stages.{texture_at}
-use Rattle.draw_checks.specs.Checks.{all_below, records_fit}
-use Rattle.draw_checks.proofs.Below.{below_none, below_more, below_miss}
+use Rattle.draw_checks.specs.Checks.{all_below}
 use Rattle.draw_checks.proofs.records_fit.Given as goal
 
 abbrev pub invariant-loop-i : goal.invariant-loop-i

@@ -2,7 +2,6 @@ use mathlib.Core.Path.{refl}
 use Rattle.lists.proofs.Choice.{yes, no}
 use borrow.Author.Tests.{lt-ltb, le-ltb}
 use Rattle.draw_checks.specs.Checks.{stage_fits}
-use borrow.Author.Rules.{rules}
 use Rattle.draw_checks.proofs.stage_fits.Goals as goal
 
 pub returns-then-x-ge-MAX_TEXTURE_STAGES : goal.returns-then-x-ge-MAX_TEXTURE_STAGES

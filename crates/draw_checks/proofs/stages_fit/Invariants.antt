@@ -1,13 +1,8 @@
-use borrow.Author.Rules.{rules}
-use mathlib.Core.Path.{◌≡◌, refl, sym, ◌∙◌}
+use mathlib.Core.Path.{◌≡◌}
 use mathlib.Core.Bool.{true}
 use Prim.Native.Nat.{◌-◌, ◌≤◌}
-use native.Mathlib.Omega.{arith}
-use borrow.Author.Tests.{not-true, not-false, lt-leb, le-leb}
-use Rattle.lists.proofs.Choice.{yes, no}
 use Rattle.stages.specs.Stages.{stage_at}
-use Rattle.draw_checks.specs.Checks.{all_below, stage_fits, stages_fit}
-use Rattle.draw_checks.proofs.Below.{below_none, below_more, below_miss}
+use Rattle.draw_checks.specs.Checks.{all_below, stage_fits}
 use Rattle.draw_checks.proofs.stages_fit.Given as goal
 
 abbrev pub invariant-loop-i : goal.invariant-loop-i

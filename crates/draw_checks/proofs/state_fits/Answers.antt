@@ -1,10 +1,9 @@
 use mathlib.Core.Path.{refl, sym, ◌∙◌}
-use mathlib.Core.List.{[], ◌∷◌}
+use mathlib.Core.List.{◌∷◌}
 use Rattle.lists.proofs.Choice.{stay, leave}
 use Rattle.floats.specs.Num.{bounded_of}
 use Rattle.draw_checks.proofs.Alls.{all_join}
 use Rattle.draw_checks.specs.Checks.{state_fits, color_fits}
-use borrow.Author.Rules.{rules}
 use Rattle.draw_checks.proofs.state_fits.Goals as goal
 
 pub returns-then-not-three_fit : goal.returns-then-not-three_fit

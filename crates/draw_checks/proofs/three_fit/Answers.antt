@@ -2,7 +2,6 @@ use mathlib.Core.Path.{refl, ◌∙◌}
 use Rattle.lists.specs.Lists.{all}
 use Rattle.lists.proofs.Choice.{stay, leave}
 use Rattle.draw_checks.proofs.Alls.{just}
-use borrow.Author.Rules.{rules}
 use Rattle.draw_checks.proofs.three_fit.Goals as goal
 
 pub returns-then-not-is_bounded : goal.returns-then-not-is_bounded

@@ -3,7 +3,6 @@ use Rattle.lists.proofs.Choice.{stay, leave}
 use Rattle.floats.specs.Num.{bounded_of}
 use Rattle.draw_checks.proofs.Alls.{all_join, all_one}
 use Rattle.draw_checks.specs.Checks.{vertex_fits}
-use borrow.Author.Rules.{rules}
 use Rattle.draw_checks.proofs.vertex_fits.Goals as goal
 
 pub returns-then-not-four_fit : goal.returns-then-not-four_fit

@@ -1,7 +1,6 @@
 use mathlib.Core.Path.{refl}
 use Rattle.lists.proofs.Choice.{stay, leave}
 use Rattle.draw_checks.specs.Checks.{vertices_fit}
-use borrow.Author.Rules.{rules}
 use Rattle.draw_checks.proofs.vertices_fit.Goals as goal
 
 pub returns-then-not-vertex_fits : goal.returns-then-not-vertex_fits

@@ -6,7 +6,6 @@ use lib.IntN.{ℤ, pos}
 use lib.Signed.{le_z}
 use Rattle.lists.proofs.Choice.{stay, leave, yes, no}
 use Rattle.draw_checks.specs.Checks.{viewport_fits}
-use borrow.Author.Rules.{rules}
 use Rattle.draw_checks.proofs.viewport_fits.Goals as goal
 
 pub returns-then-not-number_fits : goal.returns-then-not-number_fits

@@ -1,7 +1,6 @@
 use mathlib.Core.Path.{refl}
-use Rattle.lists.proofs.Choice.{no, stay, leave}
+use Rattle.lists.proofs.Choice.{stay, leave}
 use Rattle.draw_layouts.specs.Settings.{codes_known}
-use borrow.Author.Rules.{rules}
 use Rattle.draw_layouts.proofs.are_codes_known.Goals as goal
 
 pub returns-then-not-are_tests_known : goal.returns-then-not-are_tests_known

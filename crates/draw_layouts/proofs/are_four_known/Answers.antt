@@ -1,5 +1,4 @@
 use borrow.Author.Tests.{not-true, not-false}
-use Rattle.lists.proofs.Choice.{no}
 use Rattle.draw_layouts.proofs.are_four_known.Goals as goal
 
 pub returns-then-not-p : goal.returns-then-not-p

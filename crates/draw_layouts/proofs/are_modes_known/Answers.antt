@@ -1,8 +1,7 @@
 use mathlib.Core.Path.{refl, ap, ◌∙◌}
-use Rattle.lists.proofs.Choice.{no, stay, leave}
+use Rattle.lists.proofs.Choice.{stay, leave}
 use Rattle.draw_layouts.specs.Codes.{cull_known, face_known, fog_known}
 use Rattle.draw_layouts.specs.Settings.{modes_known}
-use borrow.Author.Rules.{rules}
 use Rattle.draw_layouts.proofs.are_modes_known.Goals as goal
 
 pub returns-then-not-is_cull : goal.returns-then-not-is_cull

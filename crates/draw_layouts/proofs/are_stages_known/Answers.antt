@@ -2,7 +2,6 @@ use mathlib.Core.Path.{refl}
 use Rattle.lists.proofs.Choice.{yes, no}
 use borrow.Author.Tests.{eq-eqb, ne_eqb}
 use Rattle.draw_layouts.specs.Stages.{stages_known}
-use borrow.Author.Rules.{rules}
 use Rattle.draw_layouts.proofs.are_stages_known.Goals as goal
 
 pub returns-then-b-eq0 : goal.returns-then-b-eq0

@@ -1,10 +1,9 @@
 use mathlib.Core.Path.{refl, ap, ◌∙◌}
-use Rattle.lists.proofs.Choice.{no, stay, leave}
-use Prim.Native.Nat.{ℕ, ◌-◌}
+use Rattle.lists.proofs.Choice.{stay, leave}
+use Prim.Native.Nat.{ℕ}
 use Rattle.settings.specs.Settings.{read_compare, read_factor}
 use Rattle.draw_layouts.specs.Codes.{compare_known, factor_known}
 use Rattle.draw_layouts.specs.Settings.{tests_known}
-use borrow.Author.Rules.{rules}
 use Rattle.draw_layouts.proofs.are_tests_known.Goals as goal
 
 pub returns-then-not-is_compare : goal.returns-then-not-is_compare

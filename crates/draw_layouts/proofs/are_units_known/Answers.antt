@@ -1,7 +1,6 @@
 use mathlib.Core.Path.{◌∙◌}
 use borrow.Author.Tests.{eq-eqb, ne_eqb}
 use Rattle.draw_layouts.specs.Units.{read_units}
-use borrow.Author.Rules.{rules}
 use Rattle.draw_layouts.proofs.are_units_known.Goals as goal
 
 pub returns-then-b-ne976 : goal.returns-then-b-ne976

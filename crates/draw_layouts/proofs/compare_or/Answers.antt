@@ -1,5 +1,4 @@
 use mathlib.Core.Path.{sym, ◌∙◌}
-use borrow.Author.Rules.{rules}
 use Rattle.draw_layouts.proofs.compare_or.Goals as goal
 
 pub returns-in-Is : goal.returns-in-Is

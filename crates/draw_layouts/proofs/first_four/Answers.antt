@@ -1,5 +1,4 @@
 use Rattle.draw_layouts.specs.Stages.{first_four}
-use borrow.Author.Rules.{rules}
 use Rattle.draw_layouts.proofs.first_four.Goals as goal
 
 pub returns : goal.returns

@@ -1,5 +1,4 @@
 use Rattle.draw_layouts.specs.Numbers.{float_at}
-use borrow.Author.Rules.{rules}
 use Rattle.draw_layouts.proofs.float_at.Goals as goal
 
 pub returns : goal.returns

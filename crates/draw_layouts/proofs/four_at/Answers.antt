@@ -1,5 +1,4 @@
 use Rattle.draw_layouts.specs.Numbers.{four_at}
-use borrow.Author.Rules.{rules}
 use Rattle.draw_layouts.proofs.four_at.Goals as goal
 
 pub returns : goal.returns

@@ -3,7 +3,6 @@ use Rattle.lists.proofs.Choice.{yes, no}
 use borrow.Author.Tests.{lt-ltb, le-ltb}
 use Rattle.draw_layouts.specs.Codes.{env_known}
 use Rattle.draw_layouts.specs.Stages.{stage_known}
-use borrow.Author.Rules.{rules}
 use Rattle.draw_layouts.proofs.is_stage_known.Goals as goal
 
 pub returns-then-k-b : goal.returns-then-k-b

@@ -1,5 +1,4 @@
 use Rattle.draw_layouts.specs.Settings.{mask_of}
-use borrow.Author.Rules.{rules}
 use Rattle.draw_layouts.proofs.mask_at.Goals as goal
 
 pub returns : goal.returns

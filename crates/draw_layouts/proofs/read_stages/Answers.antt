@@ -1,5 +1,4 @@
 use Rattle.draw_layouts.specs.Stages.{read_stages}
-use borrow.Author.Rules.{rules}
 use Rattle.draw_layouts.proofs.read_stages.Goals as goal
 
 pub returns : goal.returns

@@ -1,7 +1,6 @@
 use Rattle.lists.proofs.Choice.{yes, no}
 use borrow.Author.Tests.{eq-eqb, ne_eqb}
 use Rattle.draw_layouts.specs.Vertices.{read_vertices}
-use borrow.Author.Rules.{rules}
 use Rattle.draw_layouts.proofs.read_vertices.Goals as goal
 
 pub returns-then-b-ne204 : goal.returns-then-b-ne204

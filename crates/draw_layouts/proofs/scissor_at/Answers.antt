@@ -1,12 +1,11 @@
 use mathlib.Core.Path.{refl, sym, ap, ◌∙◌}
 use Rattle.lists.proofs.Choice.{yes, no}
 use borrow.Author.Tests.{eq-eqb, ne_eqb}
-use Prim.Native.Nat.{ℕ, ◌-◌}
-use Rattle.draw_layouts.proofs.Signs.{back, back_at}
+use Prim.Native.Nat.{ℕ}
+use Rattle.draw_layouts.proofs.Signs.{back_at}
 use lib.Dec.{eqb}
 use Rattle.settings.specs.declared.Scissor.TheVariants.{Within}
 use Rattle.draw_layouts.specs.Settings.{scissor_of}
-use borrow.Author.Rules.{rules}
 use Rattle.draw_layouts.proofs.scissor_at.Goals as goal
 
 pub returns-then-word_at-eq0 : goal.returns-then-word_at-eq0

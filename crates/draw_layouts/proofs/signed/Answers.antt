@@ -1,7 +1,6 @@
 use Prim.Native.Nat.{◌-◌}
 use native.Mathlib.Omega.{arith}
 use Rattle.draw_layouts.proofs.Signs.{low, minus_fits, high}
-use borrow.Author.Rules.{rules}
 use Rattle.draw_layouts.proofs.signed.Goals as goal
 
 pub returns-then-n-lt2147483648 : goal.returns-then-n-lt2147483648

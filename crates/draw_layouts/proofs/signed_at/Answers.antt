@@ -1,7 +1,6 @@
 use mathlib.Core.Path.{ap, ◌∙◌}
 use Rattle.draw_layouts.proofs.Signs.{back}
 use Rattle.draw_layouts.specs.Numbers.{signed_of, signed_at}
-use borrow.Author.Rules.{rules}
 use Rattle.draw_layouts.proofs.signed_at.Goals as goal
 
 pub returns : goal.returns

@@ -1,5 +1,4 @@
 use Rattle.draw_layouts.specs.Stages.{read_stage}
-use borrow.Author.Rules.{rules}
 use Rattle.draw_layouts.proofs.stage_at.Goals as goal
 
 pub returns : goal.returns

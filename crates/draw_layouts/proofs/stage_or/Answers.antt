@@ -2,7 +2,6 @@ use mathlib.Core.Path.{refl}
 use Rattle.lists.proofs.Choice.{yes, no}
 use borrow.Author.Tests.{lt-ltb, le-ltb}
 use Rattle.draw_layouts.specs.Stages.{stage_or}
-use borrow.Author.Rules.{rules}
 use Rattle.draw_layouts.proofs.stage_or.Goals as goal
 
 pub returns-then-k-b : goal.returns-then-k-b

@@ -4,7 +4,6 @@ use Rattle.settings.specs.Settings.{read_compare, read_factor}
 use Rattle.draw_layouts.specs.Codes.{compare_or, factor_or, cull_of, face_of, fog_of}
 use native.Mathlib.Omega.{arith}
 use Rattle.draw_layouts.specs.Settings.{state_of}
-use borrow.Author.Rules.{rules}
 use Rattle.draw_layouts.proofs.state_at.Goals as goal
 
 pub float_at-requires : goal.float_at-requires

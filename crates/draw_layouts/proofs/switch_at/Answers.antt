@@ -1,5 +1,4 @@
 use Rattle.draw_layouts.specs.Numbers.{switch_at}
-use borrow.Author.Rules.{rules}
 use Rattle.draw_layouts.proofs.switch_at.Goals as goal
 
 pub returns : goal.returns

@@ -4,7 +4,6 @@ use native.Mathlib.Omega.{arith}
 use lib.ListN.{take, drop}
 use Rattle.layouts.specs.Records.{read_of}
 use Rattle.draw_layouts.specs.Units.{read_unit}
-use borrow.Author.Rules.{rules}
 use Rattle.draw_layouts.proofs.unit_at.Goals as goal
 
 pub returns : goal.returns

@@ -1,5 +1,4 @@
 use Rattle.draw_layouts.specs.Vertices.{read_vertex}
-use borrow.Author.Rules.{rules}
 use Rattle.draw_layouts.proofs.vertex_at.Goals as goal
 
 pub returns : goal.returns

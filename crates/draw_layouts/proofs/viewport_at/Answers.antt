@@ -1,6 +1,5 @@
-use Rattle.draw_layouts.proofs.Signs.{back, back_at}
+use Rattle.draw_layouts.proofs.Signs.{back_at}
 use Rattle.draw_layouts.specs.Settings.{viewport_of}
-use borrow.Author.Rules.{rules}
 use Rattle.draw_layouts.proofs.viewport_at.Goals as goal
 
 pub returns : goal.returns

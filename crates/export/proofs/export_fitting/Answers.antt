@@ -2,7 +2,6 @@ use Prim.Native.Nat.{◌/◌, min}
 use mathlib.Core.Path.{◌≡◌}
 use native.Mathlib.Omega.{arith}
 use lib.ListN.{length}
-use borrow.Author.Rules.{rules}
 use Rattle.export.specs.Export.{exported_of}
 use Rattle.export.proofs.export_fitting.Goals as goal
 

@@ -1,11 +1,6 @@
-use Prim.Native.Nat.{◌+◌, ◌-◌, ◌*◌, ◌≤◌}
 use mathlib.Core.Path.{◌≡◌, refl, sym}
-use mathlib.Core.List.{◌++◌}
 use native.Mathlib.Omega.{arith}
-use lib.ListN.{length, drop, length-set}
-use borrow.Author.Rules.{rules}
-use Rattle.lists.specs.Lists.{flat}
-use Rattle.export.specs.Export.{rgb565_at}
+use lib.ListN.{length-set}
 use Rattle.export.proofs.Exported.{export_none, export_more}
 use Rattle.export.proofs.export_pixels.Goals as goal
 

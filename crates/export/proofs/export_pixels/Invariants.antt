@@ -1,12 +1,9 @@
-use Prim.Native.Nat.{◌+◌, ◌-◌, ◌*◌, ◌≤◌}
-use mathlib.Core.Path.{◌≡◌, refl, sym}
+use Prim.Native.Nat.{◌-◌, ◌*◌, ◌≤◌}
+use mathlib.Core.Path.{◌≡◌}
 use mathlib.Core.List.{◌++◌}
-use native.Mathlib.Omega.{arith}
-use lib.ListN.{length, drop, length-set}
-use borrow.Author.Rules.{rules}
+use lib.ListN.{length, drop}
 use Rattle.lists.specs.Lists.{flat}
 use Rattle.export.specs.Export.{rgb565_at}
-use Rattle.export.proofs.Exported.{export_none, export_more}
 use Rattle.export.proofs.export_pixels.Given as goal
 
 abbrev pub invariant-loop-p : goal.invariant-loop-p

@@ -1,9 +1,7 @@
 use mathlib.Core.Path.{refl}
 use native.Mathlib.Nat.{mul-le-mul}
 use native.Mathlib.Omega.{arith}
-use borrow.Author.Rules.{rules}
 use Rattle.answers.specs.declared.Refusal.TheVariants.{Target}
-use Prim.Native.Nat.{ℕ}
 use mathlib.Core.Path.{◌≡◌}
 use lib.ListN.{length}
 use Rattle.answers.specs.Numbers.{refusal_number}
@@ -11,7 +9,7 @@ use Rattle.answers.proofs.Answered.{refused_test, done_test}
 use Rattle.lists.proofs.Choice.{yes, no, stay, leave}
 use Rattle.export.specs.Export.{export_check}
 use Rattle.export.specs.Export.{rgb565_of}
-use Rattle.scissor.proofs.Outcome.{refused, done, target_is, passed}
+use Rattle.scissor.proofs.Outcome.{target_is, passed}
 use Rattle.export.proofs.to_rgb565.Goals as goal
 
 pub returns-then-not-target_fits : goal.returns-then-not-target_fits

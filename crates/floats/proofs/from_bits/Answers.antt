@@ -1,5 +1,4 @@
 use lib.Ieee.{of_bits, div}
-use Rattle.std.proofs.Common.{rules}
 use Rattle.floats.proofs.Signs.{pattern_nan, pattern_number}
 use Rattle.floats.proofs.from_bits.Goals as goal
 

@@ -1,4 +1,3 @@
-use borrow.Author.Rules.{rules}
 use Rattle.fragment.proofs.add.Goals as goal
 
 pub returns : goal.returns

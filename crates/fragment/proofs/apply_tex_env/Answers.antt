@@ -1,5 +1,4 @@
 use Rattle.fragment.specs.Fragment.{tex_env_of}
-use borrow.Author.Rules.{rules}
 use Rattle.fragment.proofs.apply_tex_env.Goals as goal
 
 pub returns : goal.returns

@@ -1,5 +1,4 @@
 use Rattle.fragment.specs.Fragment.{blend_of}
-use borrow.Author.Rules.{rules}
 use Rattle.fragment.proofs.blend.Goals as goal
 
 pub returns : goal.returns

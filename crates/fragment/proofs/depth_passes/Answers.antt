@@ -1,7 +1,6 @@
 use mathlib.Core.Path.{refl}
 use Rattle.lists.proofs.Choice.{yes, no}
 use Rattle.fragment.specs.Fragment.{depth_passes}
-use borrow.Author.Rules.{rules}
 use Rattle.fragment.proofs.depth_passes.Goals as goal
 
 pub returns-then-s : goal.returns-then-s

@@ -1,4 +1,3 @@
-use borrow.Author.Rules.{rules}
 use Rattle.fragment.proofs.env.Goals as goal
 
 pub returns-in-Modulate : goal.returns-in-Modulate

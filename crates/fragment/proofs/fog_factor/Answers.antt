@@ -1,5 +1,4 @@
 use Rattle.fragment.specs.Fragment.{fog_factor_of}
-use borrow.Author.Rules.{rules}
 use Rattle.fragment.proofs.fog_factor.Goals as goal
 
 pub returns : goal.returns

@@ -1,7 +1,6 @@
 use mathlib.Core.Path.{refl}
 use Rattle.lists.proofs.Choice.{yes, no}
 use Rattle.fragment.specs.Fragment.{fogged_of}
-use borrow.Author.Rules.{rules}
 use Rattle.fragment.proofs.fogged.Goals as goal
 
 pub returns-then-s : goal.returns-then-s

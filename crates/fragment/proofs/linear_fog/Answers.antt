@@ -1,7 +1,6 @@
 use mathlib.Core.Path.{refl}
 use Rattle.lists.proofs.Choice.{yes, no}
 use Rattle.fragment.specs.Fragment.{linear_fog_of}
-use borrow.Author.Rules.{rules}
 use Rattle.fragment.proofs.linear_fog.Goals as goal
 
 pub returns-then-abs : goal.returns-then-abs

@@ -1,5 +1,4 @@
 use Rattle.lists.proofs.Choice.{yes}
-use borrow.Author.Rules.{rules}
 use Rattle.fragment.proofs.masked_byte.Goals as goal
 
 pub returns-then-on : goal.returns-then-on

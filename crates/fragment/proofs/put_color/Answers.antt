@@ -1,7 +1,6 @@
 use native.Mathlib.Omega.{arith}
 use lib.ListN.{length-set}
 use Rattle.fragment.specs.Fragment.{put_color_of}
-use borrow.Author.Rules.{rules}
 use Rattle.fragment.proofs.put_color.Goals as goal
 
 pub bounds-colors-i-6 : goal.bounds-colors-i-6

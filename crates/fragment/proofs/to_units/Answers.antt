@@ -1,4 +1,3 @@
-use borrow.Author.Rules.{rules}
 use Rattle.fragment.proofs.to_units.Goals as goal
 
 pub returns : goal.returns

@@ -1,5 +1,4 @@
 use Rattle.gradients.specs.Gradients.{derivatives_of}
-use borrow.Author.Rules.{rules}
 use Rattle.gradients.proofs.derivatives.Goals as goal
 
 pub returns : goal.returns

@@ -1,5 +1,4 @@
 use Rattle.gradients.specs.Gradients.{value_of, attribute_of}
-use borrow.Author.Rules.{rules}
 use Rattle.gradients.proofs.perspective_attribute_with_gradients.Goals as goal
 
 pub returns : goal.returns

@@ -3,7 +3,6 @@ use Prim.Native.Nat.{ℕ}
 use Rattle.lists.proofs.Choice.{stay, leave}
 use Rattle.texture.specs.Parameters.{min_filter_of, filter_of, wrap_of}
 use Rattle.layouts.specs.Records.{min_known, mag_known, wrap_known, codes_known}
-use borrow.Author.Rules.{rules}
 use Rattle.layouts.proofs.are_codes_known.Goals as goal
 
 pub returns-then-not-is_min_filter : goal.returns-then-not-is_min_filter

@@ -1,5 +1,4 @@
 use mathlib.Core.Path.{sym, ◌∙◌}
-use borrow.Author.Rules.{rules}
 use Rattle.layouts.proofs.filter_or.Goals as goal
 
 pub returns-in-Known : goal.returns-in-Known

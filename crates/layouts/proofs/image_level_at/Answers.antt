@@ -1,7 +1,6 @@
 use mathlib.Core.Path.{◌∙◌}
 use native.Mathlib.Omega.{arith}
 use Rattle.layouts.proofs.Lone.{level_first, level_above}
-use borrow.Author.Rules.{rules}
 use Rattle.layouts.proofs.image_level_at.Goals as goal
 
 pub returns-then-k-eq0 : goal.returns-then-k-eq0

@@ -1,7 +1,6 @@
 use mathlib.Core.Path.{refl}
 use borrow.Author.Tests.{eq-eqb, ne_eqb}
 use Rattle.layouts.specs.Records.{read_of}
-use borrow.Author.Rules.{rules}
 use Rattle.layouts.proofs.is_known.Goals as goal
 
 pub returns-then-b-eq244 : goal.returns-then-b-eq244

@@ -1,10 +1,5 @@
 use Prim.Native.Nat.{ℕ, ◌-◌, ◌*◌, ◌≤◌, ◌<◌}
-use mathlib.Core.Path.{◌≡◌, sym, ◌∙◌}
-use mathlib.Core.Bool.{true, false}
-use native.Mathlib.Omega.{arith}
-use borrow.Author.Rules.{rules}
-use borrow.Author.Count.{below_more}
-use Rattle.lists.proofs.Choice.{true_false}
+use mathlib.Core.Path.{◌≡◌}
 use Rattle.layouts.specs.Words.{word}
 use Rattle.layouts.proofs.is_lone.Given as goal
 

@@ -6,7 +6,6 @@ use Rattle.levels.specs.Levels.{level_of, fits}
 use Rattle.layouts.specs.Words.{long}
 use Rattle.layouts.specs.Records.{read_texture, read_of}
 use Rattle.layouts.proofs.Lone.{lone_layout}
-use borrow.Author.Rules.{rules}
 use Rattle.layouts.proofs.is_valid_at.Goals as goal
 
 pub returns-then-not-does_fit : goal.returns-then-not-does_fit

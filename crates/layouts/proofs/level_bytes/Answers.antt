@@ -1,5 +1,4 @@
 use Rattle.layouts.specs.Records.{level_bytes}
-use borrow.Author.Rules.{rules}
 use Rattle.layouts.proofs.level_bytes.Goals as goal
 
 pub returns : goal.returns

@@ -1,5 +1,4 @@
 use Rattle.layouts.specs.Words.{long}
-use borrow.Author.Rules.{rules}
 use Rattle.layouts.proofs.long_at.Goals as goal
 
 pub returns : goal.returns

@@ -1,13 +1,9 @@
-use borrow.Author.Rules.{rules}
-use mathlib.Core.Path.{◌≡◌, refl, ◌∙◌}
+use mathlib.Core.Path.{◌≡◌}
 use mathlib.Core.List.{◌++◌}
 use Prim.Native.Nat.{◌-◌, ◌*◌, ◌≤◌}
-use native.Mathlib.Omega.{arith}
 use lib.ListN.{length, drop}
 use Rattle.lists.specs.Lists.{flat}
-use Rattle.lists.proofs.Rows.{flat_none, flat_more}
-use Rattle.layouts.specs.Records.{level_bytes, level_bytes_at}
-use Rattle.layouts.proofs.RoundTrip.{length_level}
+use Rattle.layouts.specs.Records.{level_bytes_at}
 use Rattle.layouts.proofs.put_levels.Given as goal
 
 abbrev pub invariant-loop-i : goal.invariant-loop-i

@@ -1,7 +1,6 @@
 use borrow.Author.Tests.{eq-eqb, ne_eqb}
 use Rattle.lists.proofs.Choice.{yes, no}
 use Rattle.layouts.specs.Records.{read_of}
-use borrow.Author.Rules.{rules}
 use Rattle.layouts.proofs.read_record.Goals as goal
 
 pub returns-then-b-ne244 : goal.returns-then-b-ne244

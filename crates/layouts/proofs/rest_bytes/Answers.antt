@@ -1,5 +1,4 @@
 use Rattle.layouts.specs.Records.{rest_bytes}
-use borrow.Author.Rules.{rules}
 use Rattle.layouts.proofs.rest_bytes.Goals as goal
 
 pub returns : goal.returns

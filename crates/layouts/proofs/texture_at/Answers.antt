@@ -1,5 +1,4 @@
 use Rattle.layouts.specs.Records.{read_texture}
-use borrow.Author.Rules.{rules}
 use Rattle.layouts.proofs.texture_at.Goals as goal
 
 pub returns : goal.returns

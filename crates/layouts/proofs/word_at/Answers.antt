@@ -1,5 +1,4 @@
 use Rattle.layouts.specs.Words.{word}
-use borrow.Author.Rules.{rules}
 use Rattle.layouts.proofs.word_at.Goals as goal
 
 pub returns : goal.returns

@@ -3,7 +3,6 @@ use Rattle.lists.specs.Lists.{flat}
 use Rattle.layouts.specs.Records.{level_bytes_at, rest_bytes, record_bytes}
 use Rattle.layouts.proofs.RoundTrip.{length_rest, levels_length}
 use Rattle.layouts.proofs.Pasted.{filled}
-use borrow.Author.Rules.{rules}
 use Rattle.layouts.proofs.write_record.Goals as goal
 
 pub returns : goal.returns

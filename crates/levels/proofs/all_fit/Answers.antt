@@ -1,10 +1,7 @@
-use mathlib.Core.Path.{◌≡◌, refl, sym, ◌∙◌}
-use Prim.Native.Nat.{◌-◌, ◌≤◌}
+use mathlib.Core.Path.{refl, sym, ◌∙◌}
 use native.Mathlib.Omega.{arith}
 use borrow.Author.Rules.{rules}
 use borrow.Author.Tests.{not-true, not-false}
-use lib.ListN.{drop}
-use Rattle.lists.specs.Lists.{all}
 use Rattle.lists.proofs.Search.{all_are_on, all_miss, all_end}
 use Rattle.levels.specs.Levels.{absent, fits}
 use Rattle.levels.proofs.all_fit.Goals as goal

@@ -1,9 +1,6 @@
-use mathlib.Core.Path.{◌≡◌, refl, sym, ◌∙◌}
-use Prim.Native.Nat.{◌-◌, ◌≤◌}
+use mathlib.Core.Path.{refl, sym, ◌∙◌}
 use native.Mathlib.Omega.{arith}
 use borrow.Author.Rules.{rules}
-use lib.ListN.{drop}
-use Rattle.lists.specs.Lists.{any}
 use Rattle.lists.proofs.Search.{any_on, any_hit, any_end}
 use Rattle.levels.specs.Levels.{absent, overlaps}
 use Rattle.levels.proofs.Valid.{fits_at}

@@ -1,12 +1,8 @@
-use mathlib.Core.Path.{◌≡◌, refl, sym, ◌∙◌}
+use mathlib.Core.Path.{◌≡◌}
 use Prim.Native.Nat.{◌-◌, ◌≤◌}
-use native.Mathlib.Omega.{arith}
-use borrow.Author.Rules.{rules}
 use lib.ListN.{drop}
 use Rattle.lists.specs.Lists.{any}
-use Rattle.lists.proofs.Search.{any_on, any_hit, any_end}
-use Rattle.levels.specs.Levels.{absent, overlaps}
-use Rattle.levels.proofs.Valid.{fits_at}
+use Rattle.levels.specs.Levels.{overlaps}
 use Rattle.levels.proofs.any_overlap.Given as goal
 
 abbrev pub invariant-loop-i : goal.invariant-loop-i

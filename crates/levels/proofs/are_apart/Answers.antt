@@ -1,6 +1,5 @@
 use mathlib.Core.Path.{sym, ◌∙◌}
 use Rattle.levels.proofs.Apart.{ascending_apart}
-use borrow.Author.Rules.{rules}
 use Rattle.levels.proofs.are_apart.Goals as goal
 
 pub returns-then-are_ascending : goal.returns-then-are_ascending

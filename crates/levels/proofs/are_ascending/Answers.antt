@@ -1,10 +1,7 @@
-use mathlib.Core.Path.{◌≡◌, refl, sym, ◌∙◌}
-use Prim.Native.Nat.{◌-◌, ◌≤◌}
+use mathlib.Core.Path.{refl, sym, ◌∙◌}
 use native.Mathlib.Omega.{arith}
 use borrow.Author.Rules.{rules}
 use borrow.Author.Tests.{not-true, not-false}
-use lib.ListN.{drop}
-use Rattle.levels.specs.Levels.{ascending}
 use Rattle.levels.proofs.Valid.{fits_at}
 use Rattle.levels.proofs.Apart.{ascending_on, ascending_stop, ascending_end}
 use Rattle.levels.proofs.are_ascending.Goals as goal

@@ -1,12 +1,7 @@
-use mathlib.Core.Path.{◌≡◌, refl, sym, ◌∙◌}
+use mathlib.Core.Path.{◌≡◌}
 use Prim.Native.Nat.{◌-◌, ◌≤◌}
-use native.Mathlib.Omega.{arith}
-use borrow.Author.Rules.{rules}
-use borrow.Author.Tests.{not-true, not-false}
 use lib.ListN.{drop}
 use Rattle.levels.specs.Levels.{ascending}
-use Rattle.levels.proofs.Valid.{fits_at}
-use Rattle.levels.proofs.Apart.{ascending_on, ascending_stop, ascending_end}
 use Rattle.levels.proofs.are_ascending.Given as goal
 
 abbrev pub invariant-loop-i : goal.invariant-loop-i

@@ -2,7 +2,6 @@ use mathlib.Core.Path.{refl, sym, ◌∙◌}
 use borrow.Author.Tests.{not-false}
 use Rattle.lists.proofs.Choice.{stay, leave}
 use Rattle.levels.specs.Levels.{valid_levels}
-use borrow.Author.Rules.{rules}
 use Rattle.levels.proofs.are_valid.Goals as goal
 
 pub returns-then-not-all_fit : goal.returns-then-not-all_fit

@@ -1,10 +1,8 @@
-use mathlib.Core.Path.{◌≡◌, sym, ◌∙◌}
-use Prim.Native.Nat.{◌+◌, ◌-◌, ◌≤◌}
+use mathlib.Core.Path.{sym, ◌∙◌}
 use native.Mathlib.Omega.{arith}
 use borrow.Author.Rules.{rules}
 use borrow.Author.Tests.{not-true, not-false}
-use lib.ListN.{drop}
-use Rattle.levels.specs.Levels.{absent, climb, top_of}
+use Rattle.levels.specs.Levels.{absent}
 use Rattle.levels.proofs.Chain.{climb_on, climb_stop, climb_end, top_start, top_none}
 use Rattle.levels.proofs.calculate_max_complete_mipmap_level.Goals as goal
 

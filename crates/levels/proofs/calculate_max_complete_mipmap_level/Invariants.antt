@@ -1,11 +1,7 @@
-use mathlib.Core.Path.{◌≡◌, sym, ◌∙◌}
+use mathlib.Core.Path.{◌≡◌}
 use Prim.Native.Nat.{◌+◌, ◌-◌, ◌≤◌}
-use native.Mathlib.Omega.{arith}
-use borrow.Author.Rules.{rules}
-use borrow.Author.Tests.{not-true, not-false}
 use lib.ListN.{drop}
-use Rattle.levels.specs.Levels.{absent, climb, top_of}
-use Rattle.levels.proofs.Chain.{climb_on, climb_stop, climb_end, top_start, top_none}
+use Rattle.levels.specs.Levels.{climb, top_of}
 use Rattle.levels.proofs.calculate_max_complete_mipmap_level.Given as goal
 
 abbrev pub invariant-loop-level : goal.invariant-loop-level

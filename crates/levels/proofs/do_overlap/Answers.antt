@@ -2,7 +2,6 @@ use mathlib.Core.Path.{refl}
 use borrow.Author.Tests.{lt-ltb, le-ltb, eq-eqb, ne_eqb}
 use Rattle.lists.proofs.Choice.{yes, no}
 use Rattle.levels.specs.Levels.{overlap}
-use borrow.Author.Rules.{rules}
 use Rattle.levels.proofs.do_overlap.Goals as goal
 
 pub returns-then-n-eq0 : goal.returns-then-n-eq0

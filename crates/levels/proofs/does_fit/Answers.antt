@@ -4,7 +4,6 @@ use native.Mathlib.Omega.{arith}
 use borrow.Author.Tests.{not-true, not-false, le-leb, lt-leb}
 use Rattle.lists.proofs.Choice.{yes, no}
 use Rattle.levels.specs.Levels.{fits, size_of}
-use borrow.Author.Rules.{rules}
 use Rattle.levels.proofs.does_fit.Goals as goal
 
 pub returns-then-not-m : goal.returns-then-not-m

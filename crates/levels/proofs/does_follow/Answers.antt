@@ -2,7 +2,6 @@ use mathlib.Core.Path.{refl, sym, ◌∙◌}
 use borrow.Author.Tests.{eq-eqb, ne_eqb}
 use Rattle.lists.proofs.Choice.{yes, no}
 use Rattle.levels.specs.Levels.{follows}
-use borrow.Author.Rules.{rules}
 use Rattle.levels.proofs.does_follow.Goals as goal
 
 pub returns-then-is_single : goal.returns-then-is_single

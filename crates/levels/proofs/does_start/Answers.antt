@@ -1,7 +1,6 @@
 use mathlib.Core.Path.{refl, sym, ◌∙◌}
 use Rattle.lists.proofs.Choice.{yes, no}
 use Rattle.levels.specs.Levels.{starts_at}
-use borrow.Author.Rules.{rules}
 use Rattle.levels.proofs.does_start.Goals as goal
 
 pub returns-then-is_complete : goal.returns-then-is_complete

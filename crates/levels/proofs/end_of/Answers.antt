@@ -3,7 +3,6 @@ use native.Mathlib.Omega.{arith}
 use Rattle.lists.proofs.Choice.{yes, no}
 use Rattle.levels.specs.Levels.{end_of}
 use Rattle.levels.proofs.Valid.{fits_known, complete_present}
-use borrow.Author.Rules.{rules}
 use Rattle.levels.proofs.end_of.Goals as goal
 
 pub size_of-requires : goal.size_of-requires

@@ -1,4 +1,3 @@
-use borrow.Author.Rules.{rules}
 use Rattle.levels.proofs.image_level.Goals as goal
 
 pub returns : goal.returns

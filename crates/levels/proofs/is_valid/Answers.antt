@@ -1,6 +1,5 @@
 use mathlib.Core.Path.{◌∙◌}
 use Rattle.levels.specs.Levels.{valid_of}
-use borrow.Author.Rules.{rules}
 use Rattle.levels.proofs.is_valid.Goals as goal
 
 pub returns : goal.returns

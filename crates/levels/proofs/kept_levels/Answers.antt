@@ -1,6 +1,5 @@
 use native.Mathlib.Omega.{arith}
 use Rattle.levels.proofs.Valid.{levels_are}
-use borrow.Author.Rules.{rules}
 use Rattle.levels.proofs.kept_levels.Goals as goal
 
 pub returns : goal.returns

@@ -2,7 +2,6 @@ use mathlib.Core.Path.{◌≡◌}
 use Prim.Native.Nat.{◌+◌, ◌-◌}
 use native.Mathlib.Omega.{arith}
 use Rattle.levels.specs.Levels.{texels_of}
-use borrow.Author.Rules.{rules}
 use Rattle.levels.proofs.level_texels.Goals as goal
 
 pub returns : goal.returns

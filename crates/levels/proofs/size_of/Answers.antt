@@ -2,7 +2,6 @@ use mathlib.Core.Path.{refl}
 use native.Mathlib.Omega.{arith}
 use native.Mathlib.Nat.{mul-le-mul}
 use Rattle.levels.specs.Levels.{size_of}
-use borrow.Author.Rules.{rules}
 use Rattle.levels.proofs.size_of.Goals as goal
 
 pub overflow_mul-result : goal.overflow_mul-result

@@ -1,5 +1,4 @@
-use mathlib.Core.Path.{◌∙◌, sym, ap}
-use borrow.Author.Rules.{rules}
+use mathlib.Core.Path.{◌∙◌, sym}
 use Rattle.mipmaps.specs.Mipmaps.{chosen_of}
 use Rattle.mipmaps.proofs.Choices.{without_levels, without_mipmaps}
 use Rattle.mipmaps.proofs.chosen_levels.Goals as goal

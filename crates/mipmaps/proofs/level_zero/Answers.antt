@@ -1,5 +1,4 @@
 use mathlib.Core.Path.{◌∙◌, refl, sym}
-use borrow.Author.Rules.{rules}
 use Rattle.lists.proofs.Choice.{yes, no}
 use Rattle.mipmaps.specs.Mipmaps.{q_at, above_one}
 use Rattle.mipmaps.proofs.Choices.{same_choice}

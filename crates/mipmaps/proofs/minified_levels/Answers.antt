@@ -1,5 +1,4 @@
 use mathlib.Core.Path.{◌∙◌}
-use borrow.Author.Rules.{rules}
 use Rattle.mipmaps.specs.Mipmaps.{minified}
 use Rattle.mipmaps.proofs.minified_levels.Goals as goal
 

@@ -1,4 +1,3 @@
-use borrow.Author.Rules.{rules}
 use Rattle.mipmaps.specs.Mipmaps.{q_at}
 use Rattle.mipmaps.proofs.q_at.Goals as goal
 

@@ -3,7 +3,6 @@ use Rattle.palette_images.specs.Paletted.{Entries}
 use Prim.Native.Nat.{ℕ, ◌^◌}
 use native.Mathlib.Nat.{mul_assoc}
 use native.Mathlib.Omega.{arith}
-use borrow.Author.Rules.{rules}
 use Rattle.palette_images.proofs.Indices.{width_le, few_entries, shifted, table_image}
 use Rattle.palette_images.proofs.decode_paletted.Goals as goal
 

@@ -1,14 +1,9 @@
-use mathlib.Core.Path.{◌≡◌, refl, ◌∙◌}
-use Rattle.palette_images.specs.Paletted.{index_at, entry_at}
+use mathlib.Core.Path.{◌≡◌}
+use Rattle.palette_images.specs.Paletted.{entry_at}
 use Prim.Native.Nat.{◌-◌, ◌*◌, ◌≤◌}
-use native.Mathlib.Omega.{arith}
-use native.Mathlib.Nat.{mul-le-mul}
-use borrow.Author.Rules.{rules}
 use lib.ListN.{length}
 use lib.Seq.{paste}
 use Rattle.lists.specs.Lists.{flat}
-use Rattle.lists.proofs.Cells.{row_none, row_more}
-use Rattle.palette_images.proofs.Indices.{width_le, in_row, entry_four}
 use Rattle.palette_images.proofs.decode_row.Given as goal
 
 abbrev pub invariant-loop-x : goal.invariant-loop-x

@@ -1,10 +1,8 @@
 use mathlib.Core.Path.{◌≡◌, refl, ap, ◌∙◌}
 use Rattle.palette_images.specs.Paletted.{entry_at}
-use mathlib.Core.List.{◌++◌}
-use Prim.Native.Nat.{◌+◌, ◌-◌, ◌*◌, ◌≤◌}
+use Prim.Native.Nat.{◌+◌, ◌*◌}
 use native.Mathlib.Omega.{arith}
 use borrow.Author.Rules.{rules}
-use lib.ListN.{length, drop}
 use Rattle.lists.specs.Lists.{flat}
 use Rattle.lists.proofs.Rows.{length_flat, flat_none, flat_more, flat_all, row_in}
 use Rattle.texels.specs.Image.{image}

@@ -1,14 +1,9 @@
-use mathlib.Core.Path.{◌≡◌, refl, ap, ◌∙◌}
+use mathlib.Core.Path.{◌≡◌}
 use Rattle.palette_images.specs.Paletted.{entry_at}
 use mathlib.Core.List.{◌++◌}
 use Prim.Native.Nat.{◌+◌, ◌-◌, ◌*◌, ◌≤◌}
-use native.Mathlib.Omega.{arith}
-use borrow.Author.Rules.{rules}
 use lib.ListN.{length, drop}
 use Rattle.lists.specs.Lists.{flat}
-use Rattle.lists.proofs.Rows.{length_flat, flat_none, flat_more, flat_all, row_in}
-use Rattle.texels.specs.Image.{image}
-use Rattle.palette_images.proofs.Indices.{width_le, entry_four}
 use Rattle.palette_images.proofs.decode_rows.Given as goal
 
 abbrev pub invariant-loop-y : goal.invariant-loop-y

@@ -2,7 +2,6 @@ use native.Mathlib.Omega.{arith}
 use Rattle.palette_images.proofs.Indices.{width_le, in_byte, few_entries, index_small, shifted}
 use native.Mathlib.Nat.{mul-le-mul}
 use lib.Pow.{pow_pos}
-use borrow.Author.Rules.{rules}
 use Rattle.palette_images.proofs.index_in.Goals as goal
 
 pub overflow_sub-low : goal.overflow_sub-low

@@ -1,9 +1,7 @@
 use mathlib.Core.Path.{◌≡◌, ◌∙◌}
-use mathlib.Core.List.{[], ◌++◌}
-use Prim.Native.Nat.{◌-◌, ◌≤◌}
 use native.Mathlib.Omega.{arith}
 use borrow.Author.Rules.{rules}
-use lib.ListN.{drop, get_or-append}
+use lib.ListN.{get_or-append}
 use Rattle.lists.specs.Lists.{tab}
 use Rattle.lists.proofs.Rows.{row_in}
 use Rattle.lists.proofs.Tables.{tab_none, tab_more, length_tab, get_or_tab}

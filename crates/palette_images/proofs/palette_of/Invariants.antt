@@ -1,13 +1,9 @@
-use mathlib.Core.Path.{◌≡◌, ◌∙◌}
-use mathlib.Core.List.{[], ◌++◌}
+use mathlib.Core.Path.{◌≡◌}
+use mathlib.Core.List.{◌++◌}
 use Prim.Native.Nat.{◌-◌, ◌≤◌}
-use native.Mathlib.Omega.{arith}
-use borrow.Author.Rules.{rules}
-use lib.ListN.{drop, get_or-append}
+use lib.ListN.{drop}
 use Rattle.lists.specs.Lists.{tab}
-use Rattle.lists.proofs.Rows.{row_in}
-use Rattle.lists.proofs.Tables.{tab_none, tab_more, length_tab, get_or_tab}
-use Rattle.texels.specs.Texels.{texel_bytes, nth_texel}
+use Rattle.texels.specs.Texels.{nth_texel}
 use Rattle.palette_images.proofs.palette_of.Given as goal
 
 abbrev pub invariant-loop-i : goal.invariant-loop-i

@@ -1,6 +1,5 @@
 use native.Mathlib.Omega.{arith}
 use native.Mathlib.Nat.{mul-le-mul}
-use borrow.Author.Rules.{rules}
 use Rattle.palette_images.proofs.row_bytes.Goals as goal
 
 pub overflow_mul-result : goal.overflow_mul-result

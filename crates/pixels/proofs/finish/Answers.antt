@@ -1,7 +1,6 @@
 use mathlib.Core.Path.{refl}
 use Rattle.lists.proofs.Choice.{stay, leave}
 use Rattle.pixels.specs.Way.{finished}
-use borrow.Author.Rules.{rules}
 use Rattle.pixels.proofs.finish.Goals as goal
 
 pub returns-then-not-alpha_passes : goal.returns-then-not-alpha_passes

@@ -2,7 +2,6 @@ use native.Mathlib.Omega.{arith}
 use Rattle.pixels.proofs.Fragments.{was_not, was_so, one_stage, depth_fails, unusable, reached}
 use mathlib.Core.Path.{◌∙◌}
 use Rattle.pixels.specs.Way.{drawing, shaded_of, fog_depth_of}
-use borrow.Author.Rules.{rules}
 use Rattle.pixels.proofs.fragment_at.Goals as goal
 
 pub returns-then-not-depth_passes : goal.returns-then-not-depth_passes

@@ -2,7 +2,6 @@ use lib.Seq.{set-get_or}
 use mathlib.Core.Path.{sym}
 use Rattle.frames.specs.State.{pixel_at}
 use Rattle.pixels.specs.Way.{written_of}
-use borrow.Author.Rules.{rules}
 use Rattle.pixels.proofs.write_depth.Goals as goal
 
 pub returns-then-state : goal.returns-then-state

@@ -1,10 +1,8 @@
 use mathlib.Core.Path.{◌∙◌, sym}
-use mathlib.Core.List.{[]}
 use native.Mathlib.Omega.{arith}
 use Rattle.pixels.specs.Way.{drawing}
 use Rattle.pixels.proofs.Fragments.{was_not, was_so}
 use Rattle.pixels.proofs.Pixels.{not_covered, dropped, kept}
-use borrow.Author.Rules.{rules}
 use Rattle.plain_pixels.proofs.draw_pixel.Goals as goal
 
 pub returns-then-not-is_covered : goal.returns-then-not-is_covered

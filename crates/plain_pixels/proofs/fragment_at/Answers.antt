@@ -1,10 +1,8 @@
 use mathlib.Core.Path.{◌∙◌}
-use mathlib.Core.List.{[]}
 use Rattle.lists.specs.Lists.{iter}
 use Rattle.stages.specs.Stages.{stages_color}
 use Rattle.pixels.specs.Way.{drawing, shaded_of, fog_depth_of}
 use Rattle.pixels.proofs.Fragments.{was_not, was_so, flat_is, flat_dropped, flat_kept, depth_fails, unusable, reached}
-use borrow.Author.Rules.{rules}
 use Rattle.plain_pixels.proofs.fragment_at.Goals as goal
 
 pub returns-then-not-depth_passes : goal.returns-then-not-depth_passes

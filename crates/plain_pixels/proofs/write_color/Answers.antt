@@ -3,7 +3,6 @@ use Rattle.fragment.specs.Fragment.{put_color_of}
 use Rattle.frames.specs.State.{pixel_at}
 use Rattle.frames.specs.Gather.{put_color}
 use Rattle.pixels.specs.Way.{written_of, blended_of}
-use borrow.Author.Rules.{rules}
 use Rattle.plain_pixels.proofs.write_color.Goals as goal
 
 pub returns-then-state : goal.returns-then-state

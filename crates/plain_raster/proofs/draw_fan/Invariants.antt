@@ -1,15 +1,11 @@
-use mathlib.Core.List.{[]}
-use borrow.Author.Rules.{rules}
-use mathlib.Core.Path.{◌≡◌, refl, sym, ◌∙◌}
+use mathlib.Core.Path.{◌≡◌}
 use Prim.Native.Nat.{◌+◌, ◌*◌, ◌-◌, ◌≤◌}
-use native.Mathlib.Omega.{arith}
 use lib.ListN.{length}
 use Rattle.lists.specs.Lists.{between}
 use Rattle.pixels.specs.Way.{drawing, drawn_to}
 use Rattle.clip.proofs.Fans.{fan_step}
 use Rattle.raster.specs.Fill.{raster_of}
-use Rattle.raster.proofs.Fills.{Filling, fill_more, fill_end}
-use Rattle.raster.proofs.Fans.{fan_small, corners_long, corners_few, fan_drawn}
+use Rattle.raster.proofs.Fills.{Filling}
 use Rattle.plain_raster.proofs.draw_fan.Given as goal
 
 abbrev pub invariant-loop-i : goal.invariant-loop-i

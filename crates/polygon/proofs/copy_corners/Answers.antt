@@ -1,9 +1,6 @@
 use mathlib.Core.Path.{◌≡◌, sym, ◌∙◌}
-use Prim.Native.Nat.{◌≤◌, ◌-◌}
 use native.Mathlib.Omega.{arith}
 use borrow.Author.Rules.{rules}
-use lib.ListN.{length}
-use Rattle.polygon.specs.Corners.{corners_of}
 use Rattle.polygon.proofs.Corners.{corners_none, corners_more, corners_next}
 use Rattle.polygon.proofs.copy_corners.Goals as goal
 

@@ -1,10 +1,7 @@
-use mathlib.Core.Path.{◌≡◌, sym, ◌∙◌}
+use mathlib.Core.Path.{◌≡◌}
 use Prim.Native.Nat.{◌≤◌, ◌-◌}
-use native.Mathlib.Omega.{arith}
-use borrow.Author.Rules.{rules}
 use lib.ListN.{length}
 use Rattle.polygon.specs.Corners.{corners_of}
-use Rattle.polygon.proofs.Corners.{corners_none, corners_more, corners_next}
 use Rattle.polygon.proofs.copy_corners.Given as goal
 
 abbrev pub invariant-loop-i : goal.invariant-loop-i

@@ -1,5 +1,4 @@
 use Rattle.polygon.proofs.Corners.{at_start}
-use borrow.Author.Rules.{rules}
 use Rattle.polygon.proofs.corner.Goals as goal
 
 pub returns : goal.returns

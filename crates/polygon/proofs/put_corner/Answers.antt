@@ -1,9 +1,8 @@
 use native.Mathlib.Omega.{arith}
-use lib.ListN.{length, length-set}
+use lib.ListN.{length-set}
 use Prim.Native.Nat.{◌*◌}
 use Rattle.polygon.specs.Corners.{put_at}
 use Rattle.polygon.proofs.Stores.{put_parts}
-use borrow.Author.Rules.{rules}
 use Rattle.polygon.proofs.put_corner.Goals as goal
 
 pub shape_of-polygon : goal.shape_of-polygon

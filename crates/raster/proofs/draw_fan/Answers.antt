@@ -1,13 +1,8 @@
 use borrow.Author.Rules.{rules}
-use mathlib.Core.Path.{◌≡◌, refl, sym, ◌∙◌}
-use Prim.Native.Nat.{◌+◌, ◌*◌, ◌-◌, ◌≤◌}
+use mathlib.Core.Path.{refl, sym, ◌∙◌}
 use native.Mathlib.Omega.{arith}
-use lib.ListN.{length}
-use Rattle.lists.specs.Lists.{between}
-use Rattle.pixels.specs.Way.{drawing, drawn_to}
 use Rattle.clip.proofs.Fans.{fan_step}
-use Rattle.raster.specs.Fill.{raster_of}
-use Rattle.raster.proofs.Fills.{Filling, fill_more, fill_end}
+use Rattle.raster.proofs.Fills.{fill_more, fill_end}
 use Rattle.raster.proofs.Fans.{fan_small, corners_long, corners_few, fan_drawn}
 use Rattle.raster.proofs.draw_fan.Goals as goal
 

@@ -2,7 +2,6 @@ use mathlib.Core.Path.{sym, ◌∙◌}
 use native.Mathlib.Omega.{arith}
 use Rattle.pixels.specs.Way.{drawing}
 use Rattle.raster.proofs.Fans.{whole_drawn, clipped_drawn}
-use borrow.Author.Rules.{rules}
 use Rattle.raster.proofs.draw_left.Goals as goal
 
 pub raster_clipped-requires : goal.raster_clipped-requires

@@ -1,12 +1,8 @@
-use borrow.Author.Rules.{rules}
-use mathlib.Core.Path.{◌≡◌, refl}
-use Prim.Native.Nat.{◌+◌, ◌*◌, ◌-◌, ◌≤◌}
+use mathlib.Core.Path.{refl}
 use native.Mathlib.Omega.{arith}
-use lib.ListN.{length}
 use Rattle.render_target.proofs.Rowwise.{row_within}
-use Rattle.pixels.specs.Way.{drawing, drawn_to}
-use Rattle.raster.specs.Fill.{row_of, fill_of}
-use Rattle.raster.proofs.Fills.{Filling, fill_more, fill_end}
+use Rattle.raster.specs.Fill.{fill_of}
+use Rattle.raster.proofs.Fills.{fill_more, fill_end}
 use Rattle.raster.proofs.fill.Goals as goal
 
 pub loop-py-init : goal.loop-py-init

@@ -1,12 +1,9 @@
-use borrow.Author.Rules.{rules}
-use mathlib.Core.Path.{◌≡◌, refl}
+use mathlib.Core.Path.{◌≡◌}
 use Prim.Native.Nat.{◌+◌, ◌*◌, ◌-◌, ◌≤◌}
-use native.Mathlib.Omega.{arith}
 use lib.ListN.{length}
-use Rattle.render_target.proofs.Rowwise.{row_within}
 use Rattle.pixels.specs.Way.{drawing, drawn_to}
 use Rattle.raster.specs.Fill.{row_of, fill_of}
-use Rattle.raster.proofs.Fills.{Filling, fill_more, fill_end}
+use Rattle.raster.proofs.Fills.{Filling}
 use Rattle.raster.proofs.fill.Given as goal
 
 abbrev pub invariant-loop-py : goal.invariant-loop-py

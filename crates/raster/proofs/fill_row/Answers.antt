@@ -1,11 +1,7 @@
-use borrow.Author.Rules.{rules}
 use mathlib.Core.Path.{refl}
-use Prim.Native.Nat.{◌+◌, ◌-◌, ◌≤◌}
 use native.Mathlib.Omega.{arith}
-use lib.ListN.{length}
-use Rattle.pixels.specs.Way.{drawing, drawn_to, pixel_of}
 use Rattle.raster.specs.Fill.{row_of}
-use Rattle.raster.proofs.Fills.{Filling, fill_more, fill_end, pixel_count}
+use Rattle.raster.proofs.Fills.{fill_more, fill_end, pixel_count}
 use Rattle.raster.proofs.fill_row.Goals as goal
 
 pub loop-px-init : goal.loop-px-init

@@ -1,5 +1,4 @@
 use Rattle.raster.specs.Fill.{primitive_of}
-use borrow.Author.Rules.{rules}
 use Rattle.raster.proofs.primitive.Goals as goal
 
 pub returns : goal.returns

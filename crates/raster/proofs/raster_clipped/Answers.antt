@@ -3,7 +3,6 @@ use native.Mathlib.Nat.{mul-le-mul_right}
 use native.Mathlib.Omega.{arith}
 use Rattle.pixels.specs.Way.{drawing}
 use Rattle.raster.proofs.Setups.{setup_within, nothing_drawn, filled}
-use borrow.Author.Rules.{rules}
 use Rattle.raster.proofs.raster_clipped.Goals as goal
 
 pub returns-in_default : goal.returns-in_default

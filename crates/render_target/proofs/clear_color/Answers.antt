@@ -1,7 +1,5 @@
 use mathlib.Core.Path.{refl}
-use borrow.Author.Rules.{rules}
 use Rattle.answers.specs.declared.Refusal.TheVariants.{Target, Scissor}
-use Prim.Native.Nat.{ℕ}
 use mathlib.Core.Path.{◌≡◌}
 use lib.ListN.{length}
 use Rattle.answers.specs.Numbers.{refusal_number}
@@ -9,7 +7,7 @@ use Rattle.answers.proofs.Answered.{refused_test, done_test}
 use Rattle.lists.proofs.Choice.{yes, no, stay, leave}
 use Rattle.render_target.specs.Clear.{clear_color_check}
 use Rattle.render_target.specs.Clear.{clear_color_of}
-use Rattle.scissor.proofs.Outcome.{refused, done, target_is, passed}
+use Rattle.scissor.proofs.Outcome.{target_is, passed}
 use Rattle.render_target.proofs.clear_color.Goals as goal
 
 pub returns-then-not-target_fits : goal.returns-then-not-target_fits

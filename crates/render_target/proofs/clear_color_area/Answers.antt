@@ -3,7 +3,6 @@ use native.Mathlib.Nat.{mul-le-mul_right}
 use native.Mathlib.Omega.{arith}
 use lib.Dec.{lit<}
 use Rattle.render_target.specs.Clear.{color_at}
-use borrow.Author.Rules.{rules}
 use Rattle.render_target.proofs.Cleared.{whole_rows}
 use Rattle.render_target.proofs.clear_color_area.Goals as goal
 

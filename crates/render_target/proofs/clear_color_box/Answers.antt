@@ -2,7 +2,6 @@ use mathlib.Core.Path.{refl, sym, ◌∙◌}
 use native.Mathlib.Omega.{arith}
 use lib.Dec.{lit<}
 use lib.ListN.{get_or}
-use borrow.Author.Rules.{rules}
 use Rattle.scissor.proofs.Boxes.{box_inside, rows_fit}
 use Rattle.render_target.proofs.Cleared.{cleared_none, rows_clear}
 use Rattle.render_target.proofs.clear_color_box.Goals as goal

@@ -1,10 +1,7 @@
 use Prim.Native.Nat.{◌-◌}
-use mathlib.Core.Path.{refl}
-use native.Mathlib.Omega.{arith}
 use lib.ListN.{length}
-use borrow.Author.Rules.{rules}
 use Rattle.render_target.specs.Clear.{rows_of, color_at}
-use Rattle.render_target.proofs.Rowwise.{Rowing, row_more, rows_end, row_within}
+use Rattle.render_target.proofs.Rowwise.{Rowing}
 use Rattle.render_target.proofs.clear_color_rows.Given as goal
 
 abbrev pub invariant-loop-y : goal.invariant-loop-y

@@ -3,7 +3,6 @@ use native.Mathlib.Nat.{mul-le-mul_right}
 use native.Mathlib.Omega.{arith}
 use lib.Dec.{lit<}
 use lib.Ieee.{nan}
-use borrow.Author.Rules.{rules}
 use Rattle.render_target.proofs.Rowwise.{row_of_ones}
 use Rattle.render_target.proofs.Cleared.{whole_rows}
 use Rattle.render_target.proofs.clear_depth_area.Goals as goal

@@ -1,7 +1,6 @@
 use mathlib.Core.Path.{sym, ◌∙◌}
 use lib.Ieee.{nan}
 use lib.Dec.{lit<}
-use borrow.Author.Rules.{rules}
 use Rattle.scissor.proofs.Boxes.{box_inside, rows_fit}
 use Rattle.render_target.proofs.Cleared.{cleared_none, rows_clear}
 use Rattle.render_target.proofs.clear_depth_box.Goals as goal

@@ -1,11 +1,6 @@
-use Prim.Native.Nat.{◌-◌}
 use mathlib.Core.Path.{refl, ◌∙◌}
 use native.Mathlib.Omega.{arith}
-use lib.Ieee.{nan}
-use lib.ListN.{length}
-use borrow.Author.Rules.{rules}
-use Rattle.render_target.specs.Clear.{rows_of}
-use Rattle.render_target.proofs.Rowwise.{Rowing, row_more, rows_end, row_of_ones, row_within}
+use Rattle.render_target.proofs.Rowwise.{row_more, rows_end, row_of_ones, row_within}
 use Rattle.render_target.proofs.clear_depth_rows.Goals as goal
 
 pub loop-y-init : goal.loop-y-init

@@ -1,10 +1,8 @@
-use Prim.Native.Nat.{◌-◌, ◌*◌, ◌≤◌}
 use mathlib.Core.Path.{◌≡◌, refl, sym}
 use native.Mathlib.Nat.{le_refl}
 use native.Mathlib.Omega.{arith}
-use lib.ListN.{length, length-set}
-use borrow.Author.Rules.{rules}
-use Rattle.render_target.specs.Clear.{span_of, color_at}
+use lib.ListN.{length-set}
+use Rattle.render_target.specs.Clear.{color_at}
 use Rattle.render_target.proofs.Spans.{span_none, pixel_more}
 use Rattle.render_target.proofs.fill_colors.Goals as goal
 

@@ -1,12 +1,8 @@
 use Prim.Native.Nat.{◌-◌, ◌≤◌}
-use mathlib.Core.Path.{◌≡◌, refl, sym}
-use native.Mathlib.Nat.{le_refl}
-use native.Mathlib.Omega.{arith}
+use mathlib.Core.Path.{◌≡◌}
 use lib.Ieee.{nan}
-use lib.ListN.{length, length-set}
-use borrow.Author.Rules.{rules}
+use lib.ListN.{length}
 use Rattle.render_target.specs.Clear.{span_of}
-use Rattle.render_target.proofs.Spans.{span_none, span_more}
 use Rattle.render_target.proofs.fill_depths.Given as goal
 
 abbrev pub invariant-loop-i : goal.invariant-loop-i

@@ -1,4 +1,3 @@
-use Rattle.std.proofs.Common.{rules}
 use Rattle.replay.proofs.f32_at.Goals as goal
 
 pub returns : goal.returns

@@ -1,4 +1,4 @@
-use Rattle.std.proofs.Common.{sym, arith, length-take-le, rules}
+use Rattle.std.proofs.Common.{sym, arith, length-take-le}
 use Rattle.replay.proofs.next.Goals as goal
 
 pub slice_bounds-read_full-end-3 : goal.slice_bounds-read_full-end-3

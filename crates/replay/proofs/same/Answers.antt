@@ -1,4 +1,4 @@
-use Rattle.std.proofs.Common.{refl, rules}
+use Rattle.std.proofs.Common.{refl}
 use Rattle.lists.proofs.Choice.{yes, no}
 use Rattle.replay.specs.Record.{same_of}
 use Rattle.replay.proofs.same.Goals as goal

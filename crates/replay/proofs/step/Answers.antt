@@ -1,4 +1,4 @@
-use Rattle.std.proofs.Common.{refl, rules}
+use Rattle.std.proofs.Common.{refl}
 use Rattle.replay.specs.Record.{step_of}
 use Rattle.replay.proofs.step.Goals as goal
 

@@ -1,5 +1,4 @@
-use Rattle.std.proofs.Common.{◌≡◌, ◌-◌, ◌≤◌, length, drop, sym, refl, ◌∙◌, arith, rules}
-use Rattle.replay.specs.Record.{sum_of}
+use Rattle.std.proofs.Common.{sym, refl, ◌∙◌, arith}
 use Rattle.replay.proofs.Sums.{sum_on, sum_end}
 use Rattle.replay.proofs.sum_bytes.Goals as goal
 

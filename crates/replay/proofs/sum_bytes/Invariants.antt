@@ -1,6 +1,5 @@
-use Rattle.std.proofs.Common.{◌≡◌, ◌-◌, ◌≤◌, length, drop, sym, refl, ◌∙◌, arith, rules}
+use Rattle.std.proofs.Common.{◌≡◌, ◌-◌, ◌≤◌, length, drop}
 use Rattle.replay.specs.Record.{sum_of}
-use Rattle.replay.proofs.Sums.{sum_on, sum_end}
 use Rattle.replay.proofs.sum_bytes.Given as goal
 
 abbrev pub invariant-loop-i : goal.invariant-loop-i

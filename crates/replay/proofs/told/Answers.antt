@@ -1,4 +1,3 @@
-use Rattle.std.proofs.Common.{rules}
 use Rattle.replay.specs.Record.{told_of}
 use Rattle.replay.proofs.told.Goals as goal
 

@@ -1,4 +1,4 @@
-use Rattle.std.proofs.Common.{sym, rules}
+use Rattle.std.proofs.Common.{sym}
 use Rattle.replay.specs.Record.{word16_of}
 use Rattle.replay.proofs.Words.{none16}
 use Rattle.replay.proofs.u16_at.Goals as goal

@@ -1,4 +1,4 @@
-use Rattle.std.proofs.Common.{sym, ◌∙◌, arith, rules}
+use Rattle.std.proofs.Common.{sym, ◌∙◌, arith}
 use Rattle.replay.specs.Record.{word32_of}
 use Rattle.replay.proofs.Words.{none32, half32}
 use Rattle.replay.proofs.u32_at.Goals as goal

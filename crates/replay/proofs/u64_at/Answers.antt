@@ -1,4 +1,4 @@
-use Rattle.std.proofs.Common.{sym, ◌∙◌, arith, rules}
+use Rattle.std.proofs.Common.{sym, ◌∙◌, arith}
 use Rattle.replay.specs.Record.{word64_of}
 use Rattle.replay.proofs.Words.{none64, half64}
 use Rattle.replay.proofs.u64_at.Goals as goal

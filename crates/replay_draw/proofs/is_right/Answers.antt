@@ -1,6 +1,5 @@
 use mathlib.Core.Path.{sym}
 use lib.Seq.{length-take-le}
-use borrow.Author.Rules.{rules}
 use Rattle.replay_draw.proofs.is_right.Goals as goal
 
 pub slice_bounds-is_call_right-end-4 : goal.slice_bounds-is_call_right-end-4

@@ -1,7 +1,5 @@
-use Prim.Native.Nat.{◌-◌}
-use mathlib.Core.Path.{◌≡◌, refl}
-use lib.ListN.{length, length-set}
-use borrow.Author.Rules.{rules}
+use mathlib.Core.Path.{refl}
+use lib.ListN.{length-set}
 use Rattle.replay_draw.proofs.load_bytes.Goals as goal
 
 pub loop-i-init : goal.loop-i-init

@@ -1,6 +1,5 @@
 use mathlib.Core.Path.{sym}
 use lib.Seq.{length-take-le}
-use borrow.Author.Rules.{rules}
 use Rattle.replay_target.proofs.is_right.Goals as goal
 
 pub slice_bounds-clear_color-end-then-call-eq0 : goal.slice_bounds-clear_color-end-then-call-eq0

@@ -1,7 +1,6 @@
 use Prim.Native.Nat.{◌-◌}
-use mathlib.Core.Path.{◌≡◌, refl}
-use lib.ListN.{length, length-set}
-use borrow.Author.Rules.{rules}
+use mathlib.Core.Path.{◌≡◌}
+use lib.ListN.{length}
 use Rattle.replay_target.proofs.load_floats.Given as goal
 
 abbrev pub invariant-loop-i : goal.invariant-loop-i

@@ -1,5 +1,4 @@
 use Rattle.replay_target.proofs.Negated.{negated}
-use borrow.Author.Rules.{rules}
 use Rattle.replay_target.proofs.number_at.Goals as goal
 
 pub overflow_sub-result : goal.overflow_sub-result

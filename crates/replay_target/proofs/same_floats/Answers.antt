@@ -1,7 +1,4 @@
-use Prim.Native.Nat.{◌-◌}
-use mathlib.Core.Path.{◌≡◌, refl}
-use lib.ListN.{length}
-use borrow.Author.Rules.{rules}
+use mathlib.Core.Path.{refl}
 use Rattle.replay_target.proofs.same_floats.Goals as goal
 
 pub loop-i-init : goal.loop-i-init

@@ -1,8 +1,5 @@
-use lib.ListN.{length-set, length}
+use lib.ListN.{length-set}
 use native.Mathlib.Omega.{arith}
-use mathlib.Core.Path.{◌≡◌}
-use Prim.Native.Nat.{◌-◌, ◌≤◌}
-use borrow.Author.Rules.{rules}
 use Rattle.replay_texels.proofs.before.Goals as goal
 
 pub loop-i-smaller : goal.loop-i-smaller

@@ -1,8 +1,6 @@
-use lib.ListN.{length-set, length}
-use native.Mathlib.Omega.{arith}
+use lib.ListN.{length}
 use mathlib.Core.Path.{◌≡◌}
 use Prim.Native.Nat.{◌-◌, ◌≤◌}
-use borrow.Author.Rules.{rules}
 use Rattle.replay_texels.proofs.before.Given as goal
 
 abbrev pub invariant-loop-i : goal.invariant-loop-i

@@ -1,4 +1,4 @@
-use Rattle.std.proofs.Common.{ap, ◌∙◌, rules}
+use Rattle.std.proofs.Common.{ap, ◌∙◌}
 use lib.Ieee.{neg}
 use Rattle.rounding.proofs.Floors.{ceil_is}
 use Rattle.rounding.proofs.ceil.Goals as goal

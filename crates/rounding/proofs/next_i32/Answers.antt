@@ -1,4 +1,4 @@
-use Rattle.std.proofs.Common.{arith, rules}
+use Rattle.std.proofs.Common.{arith}
 use Rattle.rounding.proofs.Signed.{next_zero, next_down, next_up}
 use Rattle.rounding.proofs.next_i32.Goals as goal
 

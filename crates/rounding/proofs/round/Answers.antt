@@ -1,4 +1,4 @@
-use Rattle.std.proofs.Common.{T, sym, subst, rules}
+use Rattle.std.proofs.Common.{T, sym, subst}
 use lib.Ieee.{of_bits}
 use Rattle.rounding.proofs.Halves.{round_zero, round_minus, minus_positive}
 use Rattle.rounding.proofs.round.Goals as goal

@@ -1,4 +1,4 @@
-use Rattle.std.proofs.Common.{T, sym, ◌∙◌, subst, arith, rules}
+use Rattle.std.proofs.Common.{T, sym, ◌∙◌, subst, arith}
 use lib.Ieee.{of_bits}
 use Rattle.rounding.proofs.Halves.{twice, round_high}
 use Rattle.rounding.proofs.round_above.Goals as goal

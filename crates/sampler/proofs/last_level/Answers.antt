@@ -1,6 +1,5 @@
 use mathlib.Core.Path.{subst}
 use native.Mathlib.Omega.{arith}
-use borrow.Author.Rules.{rules}
 use Rattle.mipmaps.specs.declared.Chosen.{Chosen}
 use Rattle.mipmaps.specs.Mipmaps.{Within}
 use Rattle.sampler.proofs.last_level.Goals as goal

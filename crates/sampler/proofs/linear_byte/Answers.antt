@@ -1,4 +1,3 @@
-use borrow.Author.Rules.{rules}
 use Rattle.sampler.specs.Texels.{linear_byte}
 use Rattle.sampler.proofs.linear_byte.Goals as goal
 

@@ -1,4 +1,3 @@
-use borrow.Author.Rules.{rules}
 use Rattle.sampler.specs.Texels.{linear_texel}
 use Rattle.sampler.proofs.linear_texel.Goals as goal
 

@@ -1,4 +1,3 @@
-use borrow.Author.Rules.{rules}
 use Rattle.sampler.specs.Texels.{mix_byte}
 use Rattle.sampler.proofs.mix_byte.Goals as goal
 

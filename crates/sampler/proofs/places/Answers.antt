@@ -1,4 +1,3 @@
-use borrow.Author.Rules.{rules}
 use mathlib.Core.Path.{refl}
 use Rattle.sampler.specs.Samples.{places_of}
 use Rattle.sampler.proofs.places.Goals as goal

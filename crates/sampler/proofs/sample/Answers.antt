@@ -1,5 +1,4 @@
 use mathlib.Core.Path.{◌∙◌, sym}
-use borrow.Author.Rules.{rules}
 use borrow.Author.Tests.{not-true, not-false}
 use Rattle.sampler.specs.Samples.{sampled_of}
 use Rattle.sampler.proofs.Chosen.{valid_call, invalid_call}

@@ -1,10 +1,7 @@
-use Prim.Native.Nat.{ℕ, ◌+◌, ◌-◌, ◌≤◌}
-use mathlib.Core.Path.{◌≡◌, ap, subst, ◌∙◌}
+use mathlib.Core.Path.{subst, ◌∙◌}
 use native.Mathlib.Omega.{arith}
-use borrow.Author.Rules.{rules}
 use Rattle.mipmaps.specs.declared.Chosen.{Chosen}
 use Rattle.mipmaps.specs.Mipmaps.{Within}
-use Rattle.sampler.specs.Samples.{lent_texel}
 use Rattle.sampler.proofs.Records.{level_in, lent_ready}
 use Rattle.sampler.proofs.Lent.{reach, within_ten, turned, one_level, two_levels}
 use Rattle.sampler.proofs.sample_chosen.Goals as goal

@@ -1,12 +1,6 @@
 use Prim.Native.Nat.{ℕ, ◌+◌, ◌-◌, ◌≤◌}
-use mathlib.Core.Path.{◌≡◌, ap, subst, ◌∙◌}
-use native.Mathlib.Omega.{arith}
-use borrow.Author.Rules.{rules}
-use Rattle.mipmaps.specs.declared.Chosen.{Chosen}
-use Rattle.mipmaps.specs.Mipmaps.{Within}
+use mathlib.Core.Path.{◌≡◌}
 use Rattle.sampler.specs.Samples.{lent_texel}
-use Rattle.sampler.proofs.Records.{level_in, lent_ready}
-use Rattle.sampler.proofs.Lent.{reach, within_ten, turned, one_level, two_levels}
 use Rattle.sampler.proofs.sample_chosen.Given as goal
 
 abbrev pub invariant-loop-k : goal.invariant-loop-k

@@ -1,5 +1,4 @@
 use mathlib.Core.Path.{◌∙◌}
-use borrow.Author.Rules.{rules}
 use Rattle.sampler.proofs.Parts.{level_image, nearest_is, linear_is}
 use Rattle.sampler.proofs.sample_filter.Goals as goal
 

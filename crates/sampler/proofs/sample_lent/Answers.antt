@@ -1,5 +1,4 @@
 use mathlib.Core.Path.{◌∙◌}
-use borrow.Author.Rules.{rules}
 use Rattle.levels.specs.Levels.{level_of, levels_of}
 use Rattle.mipmaps.proofs.Choices.{chosen_within}
 use Rattle.sampler.specs.Addresses.{levels_for}

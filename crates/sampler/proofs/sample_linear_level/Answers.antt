@@ -1,5 +1,4 @@
 use mathlib.Core.Path.{◌∙◌}
-use borrow.Author.Rules.{rules}
 use Rattle.coords.specs.Coords.{axis_of}
 use Rattle.coords.proofs.Sides.{axis_below}
 use Rattle.sampler.specs.Samples.{linear_in}

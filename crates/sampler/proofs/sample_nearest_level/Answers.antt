@@ -1,5 +1,4 @@
 use mathlib.Core.Path.{◌∙◌}
-use borrow.Author.Rules.{rules}
 use Rattle.coords.proofs.Sides.{index_below}
 use Rattle.sampler.specs.Samples.{nearest_in}
 use Rattle.sampler.proofs.sample_nearest_level.Goals as goal

@@ -1,4 +1,3 @@
-use borrow.Author.Rules.{rules}
 use Rattle.sampler.specs.Samples.{sampled_of}
 use Rattle.sampler.proofs.sample_with_gradients.Goals as goal
 

@@ -1,5 +1,4 @@
 use mathlib.Core.Path.{refl}
-use borrow.Author.Rules.{rules}
 use Rattle.sampler.specs.Texels.{texel_at}
 use Rattle.sampler.proofs.texel_at.Goals as goal
 

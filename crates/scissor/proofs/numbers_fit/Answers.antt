@@ -1,5 +1,4 @@
 use mathlib.Core.Path.{sym, ap, ◌∙◌}
-use borrow.Author.Rules.{rules}
 use borrow.Author.Tests.{not-true, not-false}
 use Rattle.scissor.specs.Check.{number_fits, numbers_fit}
 use Rattle.scissor.proofs.Signs.{back32}

@@ -1,4 +1,3 @@
-use borrow.Author.Rules.{rules}
 use Rattle.scissor.specs.Scissor.{bounds_of}
 use Rattle.scissor.proofs.Signs.{back32}
 use Rattle.scissor.proofs.scissor_bounds.Goals as goal

@@ -1,4 +1,3 @@
-use borrow.Author.Rules.{rules}
 use Rattle.scissor.specs.Check.{scissor_fits}
 use Rattle.scissor.proofs.Signs.{back32}
 use Rattle.scissor.proofs.scissor_fits.Goals as goal

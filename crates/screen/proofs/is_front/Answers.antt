@@ -1,4 +1,3 @@
-use Rattle.std.proofs.Common.{rules}
 use Rattle.screen.proofs.is_front.Goals as goal
 
 pub returns-in-Ccw : goal.returns-in-Ccw

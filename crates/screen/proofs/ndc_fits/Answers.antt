@@ -1,4 +1,4 @@
-use Rattle.std.proofs.Common.{refl, rules}
+use Rattle.std.proofs.Common.{refl}
 use Rattle.lists.proofs.Choice.{stay, leave}
 use Rattle.screen.specs.Screen.{ndc_fits}
 use Rattle.screen.proofs.ndc_fits.Goals as goal

@@ -1,4 +1,4 @@
-use Rattle.std.proofs.Common.{sym, ◌∙◌, rules}
+use Rattle.std.proofs.Common.{sym, ◌∙◌}
 use borrow.Author.Tests.{not-true, not-false}
 use Rattle.screen.specs.Screen.{screen_of}
 use Rattle.screen.proofs.Corners.{corner_w, corner_ndc, corner_kept}

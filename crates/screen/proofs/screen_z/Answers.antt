@@ -1,5 +1,4 @@
 use Rattle.screen.specs.Screen.{z_of}
-use Rattle.std.proofs.Common.{rules}
 use Rattle.screen.proofs.screen_z.Goals as goal
 
 pub returns : goal.returns

@@ -1,4 +1,4 @@
-use Rattle.std.proofs.Common.{w32, rules}
+use Rattle.std.proofs.Common.{w32}
 use mir.ValLaws.{to_z-of_z}
 use Rattle.screen.specs.Screen.{view_of}
 use Rattle.screen.proofs.view_of.Goals as goal

@@ -1,4 +1,4 @@
-use Rattle.std.proofs.Common.{refl, rules}
+use Rattle.std.proofs.Common.{refl}
 use Rattle.lists.proofs.Choice.{yes, no}
 use Rattle.screen.specs.Screen.{w_fits}
 use Rattle.screen.proofs.w_fits.Goals as goal

@@ -1,4 +1,3 @@
-use borrow.Author.Rules.{rules}
 use Rattle.settings.proofs.saturated.Goals as goal
 
 pub returns : goal.returns

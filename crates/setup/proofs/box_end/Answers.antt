@@ -1,5 +1,4 @@
 use Rattle.setup.specs.Box.{end_of}
-use borrow.Author.Rules.{rules}
 use Rattle.setup.proofs.box_end.Goals as goal
 
 pub returns : goal.returns

@@ -1,5 +1,4 @@
 use borrow.Author.Tests.{lt-ltb, le-ltb}
-use borrow.Author.Rules.{rules}
 use Rattle.setup.proofs.box_of.Goals as goal
 
 pub returns-then-x0-x1 : goal.returns-then-x0-x1

@@ -1,5 +1,4 @@
 use Rattle.setup.specs.Box.{start_of}
-use borrow.Author.Rules.{rules}
 use Rattle.setup.proofs.box_start.Goals as goal
 
 pub returns : goal.returns

@@ -1,5 +1,4 @@
 use Rattle.setup.specs.Box.{covered_of}
-use borrow.Author.Rules.{rules}
 use Rattle.setup.proofs.covered_box.Goals as goal
 
 pub returns : goal.returns

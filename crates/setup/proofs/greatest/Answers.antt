@@ -1,7 +1,6 @@
 use Prim.{tt}
 use lib.Ieee.{nan_bits}
 use Rattle.setup.specs.Box.{greatest_of}
-use borrow.Author.Rules.{rules}
 use Rattle.setup.proofs.greatest.Goals as goal
 
 pub float_from_bits-max : goal.float_from_bits-max

@@ -1,7 +1,6 @@
 use mathlib.Core.Path.{sym, ◌∙◌}
 use borrow.Author.Tests.{not-true, not-false}
 use Rattle.setup.proofs.Setups.{no_area, discarded, no_pixels, covers}
-use borrow.Author.Rules.{rules}
 use Rattle.setup.proofs.setup_screen.Goals as goal
 
 pub returns-then-not-area_fits : goal.returns-then-not-area_fits

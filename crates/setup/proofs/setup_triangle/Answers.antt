@@ -1,6 +1,5 @@
 use mathlib.Core.Path.{sym, ◌∙◌}
 use Rattle.setup.proofs.Setups.{no_first, no_second, no_third, three_kept}
-use borrow.Author.Rules.{rules}
 use Rattle.setup.proofs.setup_triangle.Goals as goal
 
 pub returns-in_default : goal.returns-in_default

@@ -1,5 +1,4 @@
 use Rattle.stages.specs.Stages.{coordinates_of}
-use borrow.Author.Rules.{rules}
 use Rattle.stages.proofs.coordinates_at.Goals as goal
 
 pub returns : goal.returns

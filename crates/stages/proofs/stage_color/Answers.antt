@@ -3,7 +3,6 @@ use Rattle.lists.proofs.Choice.{yes, no}
 use Rattle.sampler.specs.Samples.{sampled_of}
 use Rattle.sampler.proofs.Records.{no_width, no_height, both_sides}
 use Rattle.stages.specs.Stages.{stage_color}
-use borrow.Author.Rules.{rules}
 use Rattle.stages.proofs.stage_color.Goals as goal
 
 pub returns-then-first-eq0 : goal.returns-then-first-eq0

@@ -1,10 +1,7 @@
-use borrow.Author.Rules.{rules}
-use mathlib.Core.Path.{◌≡◌, ◌∙◌}
+use mathlib.Core.Path.{◌≡◌}
 use Prim.Native.Nat.{◌≤◌, ◌-◌}
-use native.Mathlib.Omega.{arith}
 use Rattle.lists.specs.Lists.{iter}
-use Rattle.lists.proofs.Turns.{iter_none, iter_more}
-use Rattle.stages.specs.Stages.{stage_step, stages_color}
+use Rattle.stages.specs.Stages.{stage_step}
 use Rattle.stages.proofs.stages_color.Given as goal
 
 abbrev pub invariant-loop-i : goal.invariant-loop-i

@@ -1,6 +1,5 @@
 use mathlib.Core.Path.{ap, sym, ◌∙◌}
 use Rattle.texels.specs.Texels.{format_bytes}
-use borrow.Author.Rules.{rules}
 use Rattle.texels.proofs.bytes_per_texel.Goals as goal
 
 pub returns-in-Known : goal.returns-in-Known

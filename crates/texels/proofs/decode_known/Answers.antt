@@ -5,7 +5,6 @@ use Rattle.texels.proofs.Plains.{none_above, plain_11, plain_15, plain_0, plain_
 use lib.ListN.{length}
 use native.Mathlib.Omega.{arith}
 use mathlib.Core.Path.{◌∙◌}
-use borrow.Author.Rules.{rules}
 use Rattle.texels.proofs.decode_known.Goals as goal
 
 pub overflow_mul-count : goal.overflow_mul-count

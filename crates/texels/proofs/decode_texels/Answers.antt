@@ -2,7 +2,6 @@ use lib.ListN.{length}
 use Prim.Native.Nat.{ℕ, ◌*◌, ◌≤◌}
 use mathlib.Core.Path.{subst, ap}
 use Rattle.texels.specs.Texels.{texel_bytes}
-use borrow.Author.Rules.{rules}
 use Rattle.texels.proofs.decode_texels.Goals as goal
 
 pub fill-requires : goal.fill-requires

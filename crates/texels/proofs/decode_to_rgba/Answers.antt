@@ -3,7 +3,6 @@ use Rattle.texels.specs.declared.Format.TheVariants.{Known, Unknown}
 use Rattle.texels.proofs.Plains.{wide_above, high_above, plain_14, plain_9, plain_unchanged}
 use lib.ListN.{length}
 use mathlib.Core.Path.{sym, ◌∙◌}
-use borrow.Author.Rules.{rules}
 use Rattle.texels.proofs.decode_to_rgba.Goals as goal
 
 pub returns-in_default : goal.returns-in_default

@@ -1,12 +1,8 @@
 use Rattle.texels.specs.Texels.{texel_bytes, nth_texel}
 use Rattle.texels.proofs.Images.{nth_four}
 use Rattle.lists.proofs.Rows.{flat_none, flat_more, flat_all, row_in}
-use Rattle.lists.specs.Lists.{flat}
-use lib.ListN.{length, drop}
 use borrow.Author.Rules.{rules}
 use native.Mathlib.Omega.{arith}
-use Prim.Native.Nat.{◌+◌, ◌-◌, ◌*◌, ◌≤◌}
-use mathlib.Core.List.{◌++◌}
 use mathlib.Core.Path.{◌≡◌, refl, ◌∙◌}
 use Rattle.texels.proofs.fill.Goals as goal
 

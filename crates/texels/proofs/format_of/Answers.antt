@@ -1,6 +1,5 @@
 use borrow.Author.Tests.{ne_eqb}
 use Rattle.texels.specs.Texels.{format_of}
-use borrow.Author.Rules.{rules}
 use Rattle.texels.proofs.format_of.Goals as goal
 
 pub returns-in-33635 : goal.returns-in-33635

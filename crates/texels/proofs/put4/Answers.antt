@@ -1,7 +1,6 @@
 use lib.ListN.{length-set}
 use native.Mathlib.Omega.{arith}
 use Rattle.lists.proofs.Stores.{paste_four}
-use borrow.Author.Rules.{rules}
 use Rattle.texels.proofs.put4.Goals as goal
 
 pub bounds-out-at-2 : goal.bounds-out-at-2

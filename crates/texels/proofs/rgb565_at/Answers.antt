@@ -1,4 +1,3 @@
-use borrow.Author.Rules.{rules}
 use Rattle.texels.proofs.rgb565_at.Goals as goal
 
 pub returns : goal.returns

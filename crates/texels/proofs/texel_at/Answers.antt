@@ -1,7 +1,6 @@
 use mathlib.Core.Path.{ap}
 use native.Mathlib.Omega.{arith}
 use Rattle.texels.specs.Texels.{texel_bytes}
-use borrow.Author.Rules.{rules}
 use Rattle.texels.proofs.texel_at.Goals as goal
 
 pub alpha_at-requires : goal.alpha_at-requires

@@ -1,11 +1,10 @@
 use Prim.Native.Nat.{ℕ, ◌≤◌}
-use mathlib.Core.Path.{◌≡◌, refl, sym, ap, ◌∙◌}
+use mathlib.Core.Path.{◌≡◌, sym, ap, ◌∙◌}
 use mathlib.Core.List.{List}
 use native.Mathlib.Nat.{zero-add, le_refl}
 use native.Mathlib.Omega.{arith}
 use lib.ListN.{length, take}
 use lib.Seq.{paste, take-paste, take-length, length-take-le}
-use borrow.Author.Rules.{rules}
 use Rattle.texture.proofs.copy_through.Goals as goal
 
 -- what was put at the front reads back

@@ -2,7 +2,6 @@ use mathlib.Core.Path.{refl}
 use borrow.Author.Tests.{lt-ltb, le-ltb}
 use Rattle.lists.proofs.Choice.{yes, no}
 use Rattle.texture.specs.Define.{define_check}
-use borrow.Author.Rules.{rules}
 use Rattle.texture.proofs.define_check.Goals as goal
 
 pub returns-then-width-gt1024 : goal.returns-then-width-gt1024

@@ -3,7 +3,6 @@ use native.Mathlib.Omega.{arith}
 use Rattle.answers.specs.Numbers.{number_of}
 use Rattle.texture.specs.Define.{define_of, define_store}
 use Rattle.texture.proofs.Defining.{sound, refused_number, settle_done, settle_refused}
-use borrow.Author.Rules.{rules}
 use Rattle.texture.proofs.define_level.Goals as goal
 
 pub copy_in-requires : goal.copy_in-requires

@@ -1,5 +1,4 @@
 use Rattle.texture.specs.Define.{define_record}
-use borrow.Author.Rules.{rules}
 use Rattle.texture.proofs.define_record.Goals as goal
 
 pub returns : goal.returns

@@ -1,5 +1,4 @@
 use Rattle.texture.specs.Define.{enter_level}
-use borrow.Author.Rules.{rules}
 use Rattle.texture.proofs.enter_level.Goals as goal
 
 pub returns : goal.returns

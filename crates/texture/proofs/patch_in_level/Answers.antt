@@ -2,7 +2,6 @@ use mathlib.Core.Path.{sym, ap, ◌∙◌}
 use Rattle.answers.specs.Numbers.{number_of}
 use Rattle.texture.proofs.Defining.{refused_number}
 use Rattle.texture.proofs.Patching.{rectangle_sound, patch_done, patch_refused}
-use borrow.Author.Rules.{rules}
 use Rattle.texture.proofs.patch_in_level.Goals as goal
 
 pub patch_rows-requires : goal.patch_rows-requires

@@ -6,7 +6,6 @@ use Rattle.levels.specs.Levels.{level_of}
 use Rattle.levels.proofs.Valid.{valid_level}
 use Rattle.texture.specs.Patch.{patch_check, settle_patch, patch_of}
 use Rattle.texture.proofs.Patching.{patch_within}
-use borrow.Author.Rules.{rules}
 use Rattle.texture.proofs.patch_level.Goals as goal
 
 pub returns-then-not-is_valid : goal.returns-then-not-is_valid

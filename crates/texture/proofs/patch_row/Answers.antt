@@ -1,4 +1,4 @@
-use mathlib.Core.Path.{◌≡◌, refl, ◌∙◌}
+use mathlib.Core.Path.{◌≡◌, ◌∙◌}
 use Prim.Native.Nat.{◌+◌, ◌*◌, ◌-◌}
 use native.Mathlib.Nat.{le_refl}
 use native.Mathlib.Omega.{arith}
@@ -7,7 +7,6 @@ use lib.Seq.{length-take-le, take-take}
 use Rattle.lists.proofs.Rows.{row_in}
 use Rattle.levels.specs.Levels.{size_of}
 use Rattle.texture.specs.Patch.{row_place, patch_row}
-use borrow.Author.Rules.{rules}
 use Rattle.texture.proofs.patch_row.Goals as goal
 
 pub overflow_mul-at : goal.overflow_mul-at

@@ -1,9 +1,7 @@
 use borrow.Author.Rules.{rules}
 use mathlib.Core.Path.{◌≡◌, refl, ◌∙◌}
-use Prim.Native.Nat.{◌*◌, ◌-◌, ◌≤◌}
+use Prim.Native.Nat.{◌*◌}
 use native.Mathlib.Omega.{arith}
-use lib.ListN.{length}
-use Rattle.lists.specs.Lists.{iter}
 use Rattle.lists.proofs.Rows.{row_in}
 use Rattle.lists.proofs.Turns.{iter_none, iter_more}
 use Rattle.texture.specs.Patch.{patch_row, patch_store}

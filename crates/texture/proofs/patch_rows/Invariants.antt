@@ -1,12 +1,8 @@
-use borrow.Author.Rules.{rules}
-use mathlib.Core.Path.{◌≡◌, refl, ◌∙◌}
-use Prim.Native.Nat.{◌*◌, ◌-◌, ◌≤◌}
-use native.Mathlib.Omega.{arith}
+use mathlib.Core.Path.{◌≡◌}
+use Prim.Native.Nat.{◌-◌, ◌≤◌}
 use lib.ListN.{length}
 use Rattle.lists.specs.Lists.{iter}
-use Rattle.lists.proofs.Rows.{row_in}
-use Rattle.lists.proofs.Turns.{iter_none, iter_more}
-use Rattle.texture.specs.Patch.{patch_row, patch_store}
+use Rattle.texture.specs.Patch.{patch_row}
 use Rattle.texture.proofs.patch_rows.Given as goal
 
 abbrev pub invariant-loop-r : goal.invariant-loop-r

@@ -3,7 +3,6 @@ use borrow.Author.Tests.{not-false, eq-eqb, ne_eqb}
 use Rattle.lists.proofs.Choice.{yes, no, stay, leave}
 use Rattle.levels.proofs.Valid.{valid_fits}
 use Rattle.texture.specs.Define.{record_check}
-use borrow.Author.Rules.{rules}
 use Rattle.texture.proofs.record_check.Goals as goal
 
 pub returns-then-not-is_valid : goal.returns-then-not-is_valid

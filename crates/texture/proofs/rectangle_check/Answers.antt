@@ -4,7 +4,6 @@ use native.Mathlib.Nat.{mul-le-mul}
 use borrow.Author.Tests.{lt-ltb, le-ltb}
 use Rattle.lists.proofs.Choice.{yes, no}
 use Rattle.texture.specs.Patch.{rectangle_check}
-use borrow.Author.Rules.{rules}
 use Rattle.texture.proofs.rectangle_check.Goals as goal
 
 pub returns-then-m-xoffset : goal.returns-then-m-xoffset

@@ -1,5 +1,4 @@
 use mathlib.Core.Path.{refl, sym, ◌∙◌}
-use borrow.Author.Rules.{rules}
 use Rattle.texture.proofs.set_mag_filter.Goals as goal
 
 pub returns-in-Known : goal.returns-in-Known

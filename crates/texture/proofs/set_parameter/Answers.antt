@@ -1,7 +1,6 @@
-use mathlib.Core.Path.{sym, ap, ◌∙◌}
+use mathlib.Core.Path.{sym, ◌∙◌}
 use borrow.Author.Tests.{eq-eqb, ne_eqb}
 use Rattle.texture.proofs.Setting.{sets_min, sets_mag, sets_wrap_s, sets_wrap_t, sets_nothing, sets_refused}
-use borrow.Author.Rules.{rules}
 use Rattle.texture.proofs.set_parameter.Goals as goal
 
 pub returns-then-pname-eq-GL_TEXTURE_MIN_FILTER : goal.returns-then-pname-eq-GL_TEXTURE_MIN_FILTER

@@ -1,5 +1,4 @@
-use mathlib.Core.Path.{refl, sym, ap, ◌∙◌}
-use borrow.Author.Rules.{rules}
+use mathlib.Core.Path.{refl, sym, ◌∙◌}
 use Rattle.texture.proofs.set_wrap_t.Goals as goal
 
 pub returns-in-Known : goal.returns-in-Known

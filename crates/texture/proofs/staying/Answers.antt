@@ -1,10 +1,7 @@
 use borrow.Author.Rules.{rules}
 use mathlib.Core.Path.{◌≡◌, ◌∙◌}
-use mathlib.Core.List.{◌++◌, append-nil}
-use Prim.Native.Nat.{◌-◌, ◌≤◌}
+use mathlib.Core.List.{append-nil}
 use native.Mathlib.Omega.{arith}
-use lib.ListN.{drop}
-use Rattle.lists.specs.Lists.{tab}
 use Rattle.lists.proofs.Tables.{tab_none, tab_more}
 use Rattle.texture.specs.Define.{stay_at, stay}
 use Rattle.texture.proofs.staying.Goals as goal

@@ -1,12 +1,9 @@
-use borrow.Author.Rules.{rules}
-use mathlib.Core.Path.{◌≡◌, ◌∙◌}
-use mathlib.Core.List.{◌++◌, append-nil}
+use mathlib.Core.Path.{◌≡◌}
+use mathlib.Core.List.{◌++◌}
 use Prim.Native.Nat.{◌-◌, ◌≤◌}
-use native.Mathlib.Omega.{arith}
 use lib.ListN.{drop}
 use Rattle.lists.specs.Lists.{tab}
-use Rattle.lists.proofs.Tables.{tab_none, tab_more}
-use Rattle.texture.specs.Define.{stay_at, stay}
+use Rattle.texture.specs.Define.{stay_at}
 use Rattle.texture.proofs.staying.Given as goal
 
 abbrev pub invariant-loop-i : goal.invariant-loop-i

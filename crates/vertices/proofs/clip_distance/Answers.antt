@@ -1,6 +1,5 @@
 use borrow.Author.Tests.{ne_eqb}
 use Rattle.vertices.specs.Vertex.{distance}
-use borrow.Author.Rules.{rules}
 use Rattle.vertices.proofs.clip_distance.Goals as goal
 
 pub returns-in-0 : goal.returns-in-0

@@ -1,8 +1,7 @@
-use mathlib.Core.Path.{◌≡◌, refl, sym, ◌∙◌}
-use Prim.Native.Nat.{◌≤◌, ◌-◌}
+use mathlib.Core.Path.{refl, sym, ◌∙◌}
 use borrow.Author.Rules.{rules}
 use borrow.Author.Tests.{not-true, not-false}
-use Rattle.vertices.specs.Vertex.{inside_from, inside_frustum}
+use Rattle.vertices.specs.Vertex.{inside_frustum}
 use Rattle.vertices.proofs.Laws.{inside_on, inside_out, inside_end}
 use Rattle.vertices.proofs.inside_frustum.Goals as goal
 

@@ -1,9 +1,6 @@
-use mathlib.Core.Path.{◌≡◌, refl, sym, ◌∙◌}
+use mathlib.Core.Path.{◌≡◌}
 use Prim.Native.Nat.{◌≤◌, ◌-◌}
-use borrow.Author.Rules.{rules}
-use borrow.Author.Tests.{not-true, not-false}
 use Rattle.vertices.specs.Vertex.{inside_from, inside_frustum}
-use Rattle.vertices.proofs.Laws.{inside_on, inside_out, inside_end}
 use Rattle.vertices.proofs.inside_frustum.Given as goal
 
 abbrev pub invariant-loop-plane : goal.invariant-loop-plane

@@ -1,5 +1,4 @@
 use Rattle.vertices.specs.Vertex.{inside}
-use borrow.Author.Rules.{rules}
 use Rattle.vertices.proofs.is_inside.Goals as goal
 
 pub returns : goal.returns

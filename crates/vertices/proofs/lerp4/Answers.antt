@@ -1,5 +1,4 @@
 use Rattle.vertices.specs.Vertex.{mix4}
-use borrow.Author.Rules.{rules}
 use Rattle.vertices.proofs.lerp4.Goals as goal
 
 pub returns : goal.returns

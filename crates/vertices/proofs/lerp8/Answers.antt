@@ -1,5 +1,4 @@
 use Rattle.vertices.specs.Vertex.{mix8}
-use borrow.Author.Rules.{rules}
 use Rattle.vertices.proofs.lerp8.Goals as goal
 
 pub returns : goal.returns

@@ -1,5 +1,4 @@
 use Rattle.vertices.specs.Vertex.{lerp}
-use borrow.Author.Rules.{rules}
 use Rattle.vertices.proofs.lerp_vertex.Goals as goal
 
 pub returns : goal.returns

@@ -2,7 +2,6 @@ use mathlib.Core.Path.{refl, sym, ap, ◌∙◌}
 use Rattle.answers.specs.Numbers.{number_of}
 use Rattle.lists.proofs.Choice.{stay, leave}
 use Rattle.draw.proofs.Unstaged.{check_vertices, check_refused}
-use borrow.Author.Rules.{rules}
 use Rattle.draw.proofs.plain.check.Goals as goal
 
 pub returns-then-not-vertices_fit : goal.returns-then-not-vertices_fit

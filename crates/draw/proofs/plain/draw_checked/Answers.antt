@@ -1,4 +1,3 @@
-use mathlib.Core.List.{[]}
 use mathlib.Core.Path.{sym, ◌∙◌}
 use native.Mathlib.Omega.{arith}
 use Rattle.scissor.proofs.Boxes.{box_inside, rows_fit}
@@ -6,7 +5,6 @@ use Rattle.scissor.proofs.Outcome.{target_is}
 use Rattle.pixels.specs.Way.{drawing}
 use Rattle.pixels.proofs.Fragments.{was_not, was_so}
 use Rattle.draw.proofs.Passed.{no_viewport, no_pixels, is_in_box}
-use borrow.Author.Rules.{rules}
 use Rattle.draw.proofs.plain.draw_checked.Goals as goal
 
 pub returns-then-not-viewport_draws : goal.returns-then-not-viewport_draws

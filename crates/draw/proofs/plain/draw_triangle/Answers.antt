@@ -1,7 +1,6 @@
 use mathlib.Core.Path.{sym, ap, ◌∙◌}
 use Rattle.answers.specs.Numbers.{number_of}
 use Rattle.draw.proofs.Unstaged.{checked_target, drew_unstaged, refused_unstaged}
-use borrow.Author.Rules.{rules}
 use Rattle.draw.proofs.plain.draw_triangle.Goals as goal
 
 pub draw_checked-n-requires : goal.draw_checked-n-requires

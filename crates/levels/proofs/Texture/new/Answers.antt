@@ -1,6 +1,5 @@
 use mathlib.Core.Path.{refl}
 use Rattle.levels.specs.Levels.{new_texture}
-use borrow.Author.Rules.{rules}
 use Rattle.levels.proofs.Texture.new.Goals as goal
 
 pub returns : goal.returns

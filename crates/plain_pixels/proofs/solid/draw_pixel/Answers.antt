@@ -1,12 +1,10 @@
 use mathlib.Core.Path.{◌∙◌, sym}
-use mathlib.Core.List.{[]}
 use native.Mathlib.Omega.{arith}
 use Rattle.coverage.specs.Coverage.{weights_of}
 use Rattle.pixels.specs.Way.{drawing}
 use Rattle.pixels.proofs.Fragments.{was_not, was_so, depth_fails, unusable}
 use Rattle.pixels.proofs.Pixels.{not_covered, dropped}
 use Rattle.plain_pixels.proofs.Solids.{solid_kept}
-use borrow.Author.Rules.{rules}
 use Rattle.plain_pixels.proofs.solid.draw_pixel.Goals as goal
 
 pub returns-then-not-is_covered : goal.returns-then-not-is_covered

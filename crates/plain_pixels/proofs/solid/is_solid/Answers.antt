@@ -1,7 +1,6 @@
 use mathlib.Core.Path.{refl}
 use Rattle.lists.proofs.Choice.{yes, no}
 use Rattle.plain_pixels.specs.Solid.{solid_of}
-use borrow.Author.Rules.{rules}
 use Rattle.plain_pixels.proofs.solid.is_solid.Goals as goal
 
 pub returns-then-state : goal.returns-then-state

@@ -1,6 +1,5 @@
 use native.Mathlib.Omega.{arith}
 use lib.ListN.{length-set}
-use borrow.Author.Rules.{rules}
 use Rattle.plain_pixels.proofs.solid.put_bytes.Goals as goal
 
 pub bounds-colors-k-2 : goal.bounds-colors-k-2

@@ -1,5 +1,4 @@
 use Rattle.plain_pixels.specs.Solid.{solid_color}
-use borrow.Author.Rules.{rules}
 use Rattle.plain_pixels.proofs.solid.solid_color.Goals as goal
 
 pub returns : goal.returns

@@ -1,4 +1,3 @@
-use borrow.Author.Rules.{rules}
 use Rattle.probes.proofs.probe_clip.probe_attribute.Goals as goal
 
 pub returns : goal.returns

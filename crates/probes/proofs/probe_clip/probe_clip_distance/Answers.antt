@@ -1,6 +1,5 @@
 use mathlib.Core.Path.{ap, ◌∙◌}
 use Rattle.vertices.specs.Vertex.{distance}
-use borrow.Author.Rules.{rules}
 use Rattle.probes.proofs.probe_clip.probe_clip_distance.Goals as goal
 
 pub returns : goal.returns

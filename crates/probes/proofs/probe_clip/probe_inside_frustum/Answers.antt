@@ -1,6 +1,5 @@
 use mathlib.Core.Path.{ap, ◌∙◌}
 use Rattle.vertices.specs.Vertex.{inside_frustum}
-use borrow.Author.Rules.{rules}
 use Rattle.probes.proofs.probe_clip.probe_inside_frustum.Goals as goal
 
 pub returns : goal.returns

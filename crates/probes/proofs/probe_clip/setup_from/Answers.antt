@@ -1,5 +1,4 @@
 use mathlib.Core.Path.{◌∙◌}
-use borrow.Author.Rules.{rules}
 use Rattle.probes.proofs.probe_clip.setup_from.Goals as goal
 
 pub returns : goal.returns

@@ -1,6 +1,5 @@
 use native.Mathlib.Omega.{arith}
 use lib.ListN.{length-set}
-use borrow.Author.Rules.{rules}
 use Rattle.probes.proofs.probe_clip.tell_ends.Goals as goal
 
 pub bounds-ends-1 : goal.bounds-ends-1

@@ -1,10 +1,9 @@
-use Prim.Native.Nat.{ℕ, ◌-◌}
+use Prim.Native.Nat.{ℕ}
 use mathlib.Core.List.{List}
 use lib.Ieee.{Float, nan}
-use lib.ListN.{length, get_or}
-use borrow.Author.Rules.{rules}
+use lib.ListN.{get_or}
 use Rattle.rounding.specs.Rounding.{floor_of}
-use Rattle.probes.proofs.Mapped.{Mapped, mapped_none, mapped_more, mapped_all}
+use Rattle.probes.proofs.Mapped.{mapped_none, mapped_more, mapped_all}
 use Rattle.probes.proofs.probe_floats.probe_floors.Goals as goal
 
 abbrev floor_at : List Float → ℕ → Float

@@ -1,10 +1,6 @@
-use Prim.Native.Nat.{ℕ, ◌-◌}
-use mathlib.Core.List.{List}
-use lib.Ieee.{Float, nan}
-use lib.ListN.{length, get_or}
-use borrow.Author.Rules.{rules}
-use Rattle.rounding.specs.Rounding.{floor_of}
-use Rattle.probes.proofs.Mapped.{Mapped, mapped_none, mapped_more, mapped_all}
+use Prim.Native.Nat.{◌-◌}
+use lib.ListN.{length}
+use Rattle.probes.proofs.Mapped.{Mapped}
 use Rattle.probes.proofs.probe_floats.probe_floors.Given as goal
 
 abbrev pub invariant-loop-i : goal.invariant-loop-i

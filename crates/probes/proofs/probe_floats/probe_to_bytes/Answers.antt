@@ -1,10 +1,9 @@
-use Prim.Native.Nat.{ℕ, ◌-◌}
+use Prim.Native.Nat.{ℕ}
 use mathlib.Core.List.{List}
 use lib.Ieee.{Float, nan}
-use lib.ListN.{length, get_or}
-use borrow.Author.Rules.{rules}
+use lib.ListN.{get_or}
 use Rattle.channels.specs.Channel.{byte_of}
-use Rattle.probes.proofs.Mapped.{Mapped, mapped_none, mapped_more, mapped_all}
+use Rattle.probes.proofs.Mapped.{mapped_none, mapped_more, mapped_all}
 use Rattle.probes.proofs.probe_floats.probe_to_bytes.Goals as goal
 
 abbrev byte_at : List Float → ℕ → ℕ

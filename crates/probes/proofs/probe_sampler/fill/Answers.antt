@@ -1,14 +1,12 @@
-use Prim.Native.Nat.{ℕ, ◌-◌}
+use Prim.Native.Nat.{ℕ}
 use mathlib.Core.Path.{refl, ◌∙◌}
 use mathlib.Core.List.{List}
 use native.Mathlib.Omega.{arith}
 use lib.Ieee.{Float}
-use lib.ListN.{length}
-use borrow.Author.Rules.{rules}
 use Rattle.levels.specs.declared.Texture.{Texture}
 use Rattle.sampler.specs.Samples.{sample_of}
 use Rattle.probes.specs.Sampling.{coordinates_from, packed}
-use Rattle.probes.proofs.Mapped.{Mapped, mapped_none, mapped_more, mapped_all}
+use Rattle.probes.proofs.Mapped.{mapped_none, mapped_more, mapped_all}
 use Rattle.probes.proofs.probe_sampler.fill.Goals as goal
 
 abbrev sample_at : List ℕ → Texture → List Float → ℕ → ℕ

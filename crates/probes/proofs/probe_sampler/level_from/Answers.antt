@@ -1,4 +1,3 @@
-use borrow.Author.Rules.{rules}
 use Rattle.probes.proofs.probe_sampler.level_from.Goals as goal
 
 pub returns : goal.returns

@@ -1,5 +1,4 @@
 use native.Mathlib.Omega.{arith}
-use borrow.Author.Rules.{rules}
 use Rattle.probes.specs.Sampling.{levels_from}
 use Rattle.probes.proofs.probe_sampler.levels_from.Goals as goal
 

@@ -1,5 +1,4 @@
 use mathlib.Core.Path.{◌∙◌}
-use borrow.Author.Rules.{rules}
 use Rattle.probes.proofs.probe_sampler.packed_sample.Goals as goal
 
 pub returns : goal.returns

@@ -1,4 +1,3 @@
-use borrow.Author.Rules.{rules}
 use Rattle.probes.specs.Sampling.{texture_from}
 use Rattle.probes.proofs.probe_sampler.texture_from.Goals as goal
 

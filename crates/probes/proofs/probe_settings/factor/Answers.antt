@@ -1,6 +1,5 @@
 use mathlib.Core.Path.{ap, ◌∙◌}
 use Rattle.probes.specs.Settings.{factor_or}
-use borrow.Author.Rules.{rules}
 use Rattle.probes.proofs.probe_settings.factor.Goals as goal
 
 pub returns : goal.returns

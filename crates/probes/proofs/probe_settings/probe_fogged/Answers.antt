@@ -1,7 +1,6 @@
 use mathlib.Core.Path.{ap, ◌∙◌}
 use Rattle.fragment.specs.Fragment.{fogged_of, fog_factor_of}
 use Rattle.probes.specs.Settings.{channels_of}
-use borrow.Author.Rules.{rules}
 use Rattle.probes.proofs.probe_settings.probe_fogged.Goals as goal
 
 pub returns : goal.returns

@@ -1,6 +1,5 @@
 use mathlib.Core.Path.{ap, ◌∙◌}
 use Rattle.probes.specs.Settings.{channels_of}
-use borrow.Author.Rules.{rules}
 use Rattle.probes.proofs.probe_settings.probe_resolve.Goals as goal
 
 pub returns : goal.returns

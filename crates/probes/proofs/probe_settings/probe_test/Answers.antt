@@ -1,4 +1,3 @@
-use borrow.Author.Rules.{rules}
 use Rattle.probes.proofs.probe_settings.probe_test.Goals as goal
 
 pub returns : goal.returns

@@ -1,4 +1,3 @@
-use borrow.Author.Rules.{rules}
 use Rattle.settings.proofs.BlendFactor.resolve.Goals as goal
 
 pub returns-in-Zero : goal.returns-in-Zero

@@ -1,4 +1,3 @@
-use borrow.Author.Rules.{rules}
 use Rattle.settings.proofs.CompareFunc.test.Goals as goal
 
 pub returns-in-Less : goal.returns-in-Less

@@ -3,7 +3,6 @@ use Rattle.lists.proofs.Choice.{yes, no}
 use Rattle.answers.specs.Numbers.{refusal_number}
 use Rattle.answers.proofs.Answered.{refused_test, done_test}
 use Rattle.compressed.specs.Compressed.{compressed_of, size_check, sized_number, sized_bytes, size_answered}
-use borrow.Author.Rules.{rules}
 use Rattle.tilefringe.proofs.decode.tf_compressed_image_size.Goals as goal
 
 pub returns-in-Bytes : goal.returns-in-Bytes

@@ -1,6 +1,5 @@
 use mathlib.Core.Path.{ap, ◌∙◌}
 use Prim.Native.Nat.{ℕ, ◌*◌}
-use borrow.Author.Rules.{rules}
 use Rattle.tilefringe.proofs.draw_calls.draw_number.Goals as goal
 
 pub returns-in-Refused : goal.returns-in-Refused

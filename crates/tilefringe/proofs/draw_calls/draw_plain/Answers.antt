@@ -1,6 +1,5 @@
 use Rattle.draw.specs.Draw.{answer_of}
 use Rattle.tilefringe.proofs.Drawn.{plain_faulted, plain_drawn}
-use borrow.Author.Rules.{rules}
 use Rattle.tilefringe.proofs.draw_calls.draw_plain.Goals as goal
 
 pub returns-then-not-are_four_known : goal.returns-then-not-are_four_known

@@ -1,7 +1,6 @@
 use mathlib.Core.Path.{◌∙◌}
 use Rattle.draw.specs.Draw.{answer_of}
 use Rattle.tilefringe.proofs.Drawn.{plain_call, faulted, drawn}
-use borrow.Author.Rules.{rules}
 use Rattle.tilefringe.proofs.draw_calls.tf_draw_triangle.Goals as goal
 
 pub returns-then-stages-eq0 : goal.returns-then-stages-eq0

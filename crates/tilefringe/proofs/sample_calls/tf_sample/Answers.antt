@@ -3,7 +3,6 @@ use Rattle.lists.proofs.Choice.{stay, leave}
 use Rattle.layouts.specs.declared.RecordRead.{RecordRead}
 use Rattle.sampler.specs.Samples.{Outcome, outcome_of, sample_call}
 use Rattle.tilefringe.specs.SampleCalls.{coordinates, ended, layout_sample}
-use borrow.Author.Rules.{rules}
 use Rattle.tilefringe.proofs.sample_calls.tf_sample.Goals as goal
 
 pub returns-then-not-read : goal.returns-then-not-read

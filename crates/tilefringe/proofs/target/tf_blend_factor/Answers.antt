@@ -1,5 +1,4 @@
 use mathlib.Core.Path.{ap, ◌∙◌}
-use borrow.Author.Rules.{rules}
 use Rattle.settings.specs.Settings.{factor_number}
 use Rattle.tilefringe.proofs.target.tf_blend_factor.Goals as goal
 

@@ -1,5 +1,4 @@
 use mathlib.Core.Path.{sym, ◌∙◌}
-use borrow.Author.Rules.{rules}
 use Rattle.tilefringe.proofs.Boxed.{handed}
 use Rattle.tilefringe.proofs.target.tf_clear_depth.Goals as goal
 

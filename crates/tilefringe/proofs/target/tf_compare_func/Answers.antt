@@ -1,5 +1,4 @@
 use mathlib.Core.Path.{ap, ◌∙◌}
-use borrow.Author.Rules.{rules}
 use Rattle.settings.specs.Settings.{compare_number}
 use Rattle.tilefringe.proofs.target.tf_compare_func.Goals as goal
 

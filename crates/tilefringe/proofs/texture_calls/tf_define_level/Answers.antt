@@ -5,7 +5,6 @@ use Rattle.texture.specs.Define.{define_of}
 use Rattle.layouts.specs.declared.RecordRead.{RecordRead}
 use Rattle.layouts.proofs.RoundTrip.{known_length}
 use Rattle.tilefringe.specs.TextureCalls.{defined, define_call}
-use borrow.Author.Rules.{rules}
 use Rattle.tilefringe.proofs.texture_calls.tf_define_level.Goals as goal
 
 pub returns-then-not-read : goal.returns-then-not-read

@@ -2,7 +2,6 @@ use mathlib.Core.Path.{refl}
 use borrow.Author.Tests.{eq-eqb, ne_eqb}
 use Rattle.lists.proofs.Choice.{yes, no}
 use Rattle.tilefringe.specs.TextureCalls.{new_call}
-use borrow.Author.Rules.{rules}
 use Rattle.tilefringe.proofs.texture_calls.tf_new_texture.Goals as goal
 
 pub returns-then-layout-ne244 : goal.returns-then-layout-ne244

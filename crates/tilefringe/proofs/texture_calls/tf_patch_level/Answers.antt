@@ -3,7 +3,6 @@ use mathlib.Core.Bool.{true, false}
 use mathlib.Core.List.{List}
 use Prim.Native.Nat.{ℕ}
 use native.Mathlib.Omega.{arith}
-use lib.ListN.{length}
 use borrow.Author.Tests.{not-true, not-false, lt-ltb, le-ltb}
 use Rattle.lists.proofs.Choice.{leave}
 use Rattle.levels.specs.declared.MipLevel.{MipLevel}
@@ -14,7 +13,6 @@ use Rattle.texture.proofs.Patching.{patch_within}
 use Rattle.layouts.specs.Records.{read_of, read_texture}
 use Rattle.layouts.proofs.RoundTrip.{known_length, known_texture}
 use Rattle.tilefringe.specs.TextureCalls.{patched, patch_call}
-use borrow.Author.Rules.{rules}
 use Rattle.tilefringe.proofs.texture_calls.tf_patch_level.Goals as goal
 
 -- the call on a layout that holds a record

@@ -5,7 +5,6 @@ use Rattle.texture.specs.Parameters.{set_of}
 use Rattle.layouts.specs.declared.RecordRead.{RecordRead}
 use Rattle.layouts.proofs.RoundTrip.{known_length}
 use Rattle.tilefringe.specs.TextureCalls.{set, set_call}
-use borrow.Author.Rules.{rules}
 use Rattle.tilefringe.proofs.texture_calls.tf_set_parameter.Goals as goal
 
 pub returns-then-not-read : goal.returns-then-not-read

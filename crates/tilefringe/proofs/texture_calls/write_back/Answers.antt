@@ -3,7 +3,6 @@ use Rattle.lists.proofs.Choice.{no}
 use Rattle.answers.specs.Numbers.{number_of}
 use Rattle.texture.proofs.Defining.{refused_number}
 use Rattle.tilefringe.specs.TextureCalls.{written}
-use borrow.Author.Rules.{rules}
 use Rattle.tilefringe.proofs.texture_calls.write_back.Goals as goal
 
 pub returns-in-Refused : goal.returns-in-Refused
