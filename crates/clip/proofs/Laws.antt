@@ -1,7 +1,7 @@
 -- The walk around a polygon, step by step, and how many corners it can give. Assumes nothing.
 use mathlib.Core.Bool.{Bool, true, false, cond, beq}
 use mathlib.Core.Path.{◌≡◌, refl, sym, ◌∙◌}
-use mathlib.Core.List.{List, ◌∷◌, ◌++◌}
+use mathlib.Core.List.{List, [], ◌∷◌, ◌++◌}
 use Prim.Native.Nat.{ℕ, zero, suc, ◌+◌, ◌-◌, ◌*◌, ◌/◌, ◌%◌, ◌≤◌, ◌<◌}
 use native.Mathlib.Nat.{mod-eq_of_lt, mod_self}
 use native.Mathlib.Numerals.{add-one}

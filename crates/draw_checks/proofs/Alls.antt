@@ -1,7 +1,7 @@
 -- Tests of all elements of a list, part by part. Assumes nothing.
 use mathlib.Core.Bool.{Bool, true, false, cond}
 use mathlib.Core.Path.{◌≡◌, refl}
-use mathlib.Core.List.{List, ◌∷◌, ◌++◌}
+use mathlib.Core.List.{List, [], ◌∷◌, ◌++◌}
 use Rattle.lists.specs.Lists.{all}
 
 pub just : (b : Bool) → b ≡ cond b true false

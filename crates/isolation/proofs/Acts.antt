@@ -6,7 +6,7 @@ use mathlib.Core.Bool.{Bool, true, false, cond, ◌||◌, true≢false}
 use Prim.Native.Nat.{ℕ}
 use lib.Dec.{eqb}
 use Rattle.isolation.specs.Machine.{Act, Places, Agree, Alike, Local}
-use Rattle.isolation.specs.Acts.{refuse, check}
+use Rattle.isolation.specs.Acts.{refuse, check, ◌then◌by◌}
 
 or_false : (x y : Bool) → (x || y) ≡ false → (x ≡ false) × (y ≡ false)
 or_false true y e = absurd (true≢false e)

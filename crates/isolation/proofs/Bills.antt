@@ -1,7 +1,7 @@
 -- A guest's bill is the cost of its own answers, added up; so is that of the guest alone. Assumes nothing.
 use mathlib.Core.Path.{◌≡◌, refl, ap}
 use mathlib.Core.Bool.{Bool, true, false, cond}
-use mathlib.Core.List.{List, ◌∷◌}
+use mathlib.Core.List.{List, [], ◌∷◌}
 use Prim.Native.Nat.{ℕ, ◌+◌}
 use lib.Dec.{eqb}
 use Rattle.isolation.specs.Machine.{Guest, Machine, Turns, next, answer, answers_of, bill_of, play}

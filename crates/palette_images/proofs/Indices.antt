@@ -1,6 +1,6 @@
 -- Indices of b bits, where b divides 8: each lies in one byte, and a row of them in its bytes. Assumes nothing.
 use mathlib.Core.Path.{◌≡◌, refl, sym, ap, ◌∙◌}
-use mathlib.Core.List.{List}
+use mathlib.Core.List.{List, []}
 use Prim.Native.Nat.{ℕ, ◌+◌, ◌-◌, ◌*◌, ◌/◌, ◌%◌, ◌^◌, ◌≤◌, ◌<◌}
 use native.Mathlib.Nat.{zero-mul, mul-zero, suc-mul, le-mul_of_pos_right, mul_comm, mod-lt, mul-mod_left, mul-le-mul_right, one-mul, mod-eq_of_lt, lt_of_le_of_lt}
 use native.Mathlib.Decide.{dec_lt}

@@ -1,7 +1,7 @@
 -- The three ways of a pixel: not covered, its fragment dropped, its fragment kept. Assumes nothing.
 use mathlib.Core.Path.{◌≡◌, refl}
 use mathlib.Core.Bool.{true, false}
-use mathlib.Core.List.{List}
+use mathlib.Core.List.{List, []}
 use Prim.Native.Nat.{ℕ, ◌+◌, ◌*◌}
 use lib.ListN.{get_or, set}
 use lib.Ieee.{Float, nan}

@@ -3,7 +3,7 @@ use Rattle.lists.proofs.Tables.{tab_none, tab_more}
 use Rattle.alpha_blocks.proofs.Laws.{two_halves}
 use borrow.Author.Rules.{rules}
 use native.Mathlib.Omega.{arith}
-use Prim.Native.Nat.{◌+◌, ◌*◌}
+use Prim.Native.Nat.{◌+◌, ◌*◌, ◌-◌}
 use mathlib.Core.List.{append-nil}
 use mathlib.Core.Path.{◌≡◌, ◌∙◌}
 use Rattle.alpha_blocks.proofs.alpha_selectors.Goals as goal

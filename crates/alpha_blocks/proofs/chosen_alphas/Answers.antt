@@ -2,6 +2,7 @@ use Rattle.lists.proofs.Tables.{tab_none, tab_more}
 use lib.ListN.{get_or}
 use borrow.Author.Rules.{rules}
 use native.Mathlib.Omega.{arith}
+use Prim.Native.Nat.{◌-◌}
 use mathlib.Core.List.{append-nil}
 use mathlib.Core.Path.{◌≡◌, ◌∙◌}
 use Rattle.alpha_blocks.proofs.chosen_alphas.Goals as goal

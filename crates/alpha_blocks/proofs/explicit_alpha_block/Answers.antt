@@ -1,4 +1,4 @@
-use Prim.Native.Nat.{◌+◌, ◌*◌, ◌/◌, ◌%◌, ◌^◌}
+use Prim.Native.Nat.{◌+◌, ◌*◌, ◌/◌, ◌%◌, ◌^◌, ◌-◌}
 use Rattle.texels.specs.Texels.{expand4}
 use Rattle.alpha_blocks.specs.AlphaBlocks.{explicit_alpha}
 use Rattle.lists.proofs.Tables.{tab_none, tab_more}

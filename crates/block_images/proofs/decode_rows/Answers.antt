@@ -1,6 +1,6 @@
 use mathlib.Core.Path.{◌≡◌, refl, ◌∙◌}
 use Rattle.block_images.specs.Walk.{blocks_over, put_rows}
-use Prim.Native.Nat.{◌<◌}
+use Prim.Native.Nat.{◌-◌, ◌<◌}
 use native.Mathlib.Omega.{arith}
 use borrow.Author.Rules.{rules}
 use Rattle.lists.proofs.Turns.{iter_none, iter_more}

@@ -1,7 +1,7 @@
 use Rattle.polygon.proofs.Corners.{length_corners}
 use Rattle.clip.proofs.Walks.{starts, ends, room_kept, room_cross, goes, this_corner, next_corner}
 use mathlib.Core.Path.{ap}
-use Prim.Native.Nat.{◌+◌}
+use Prim.Native.Nat.{◌-◌, ◌+◌}
 use native.Mathlib.Nat.{mod-lt}
 use native.Mathlib.Omega.{arith}
 use borrow.Author.Rules.{rules}

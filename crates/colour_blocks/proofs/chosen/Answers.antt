@@ -1,10 +1,11 @@
-use mathlib.Core.List.{append-nil}
+use mathlib.Core.List.{[], append-nil}
 use Rattle.alpha_blocks.specs.AlphaBlocks.{selector}
 use Rattle.colour_blocks.specs.ColourBlocks.{chosen}
 use Rattle.lists.proofs.Tables.{tab_none, tab_more}
 use lib.ListN.{get_or}
 use borrow.Author.Rules.{rules}
 use native.Mathlib.Omega.{arith}
+use Prim.Native.Nat.{◌-◌}
 use mathlib.Core.Path.{◌≡◌, ◌∙◌}
 use Rattle.colour_blocks.proofs.chosen.Goals as goal
 

@@ -1,4 +1,4 @@
-use mathlib.Core.List.{◌++◌}
+use mathlib.Core.List.{[], ◌++◌}
 use Rattle.alpha_blocks.specs.AlphaBlocks.{selector}
 use Rattle.lists.specs.Lists.{tab}
 use lib.ListN.{drop, get_or}

@@ -3,6 +3,7 @@ use Rattle.colour_blocks.specs.ColourBlocks.{dxt1_alpha_of}
 use Rattle.lists.proofs.Tables.{tab_none, tab_more}
 use borrow.Author.Rules.{rules}
 use native.Mathlib.Omega.{arith}
+use Prim.Native.Nat.{◌-◌}
 use mathlib.Core.List.{append-nil}
 use mathlib.Core.Path.{◌≡◌, ◌∙◌}
 use Rattle.colour_blocks.proofs.dxt1_alphas.Goals as goal

@@ -1,4 +1,4 @@
-use Rattle.std.proofs.Common.{◌≡◌, ℕ, ◌≤◌, T, sym, subst, arith}
+use Rattle.std.proofs.Common.{◌≡◌, ℕ, ◌-◌, ◌≤◌, T, sym, subst, arith}
 use Rattle.detail.specs.Steps.{Reached}
 use Rattle.detail.proofs.Fractions.{reach, stop, highest}
 use Rattle.detail.proofs.step_of.Goals as goal

@@ -1,4 +1,4 @@
-use mathlib.Core.List.{◌∷◌}
+use mathlib.Core.List.{[], ◌∷◌}
 use mathlib.Core.Path.{ap, ◌∙◌}
 use Rattle.scissor.proofs.Signs.{back32}
 use Rattle.draw_bytes.specs.Write.{bits_of, number_words}

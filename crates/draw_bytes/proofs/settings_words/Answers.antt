@@ -1,4 +1,4 @@
-use mathlib.Core.List.{◌∷◌}
+use mathlib.Core.List.{[], ◌∷◌}
 use mathlib.Core.Path.{ap, ◌∙◌}
 use lib.ListN.{get_or}
 use Rattle.draw_bytes.specs.Write.{switch_word, settings_words}

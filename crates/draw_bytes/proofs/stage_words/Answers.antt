@@ -1,4 +1,4 @@
-use mathlib.Core.List.{◌∷◌}
+use mathlib.Core.List.{[], ◌∷◌}
 use Rattle.draw_bytes.specs.Write.{stage_words}
 use Rattle.draw_bytes.proofs.stage_words.Goals as goal
 

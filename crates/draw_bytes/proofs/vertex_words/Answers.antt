@@ -1,4 +1,4 @@
-use mathlib.Core.List.{◌∷◌}
+use mathlib.Core.List.{[], ◌∷◌}
 use Rattle.draw_bytes.specs.Write.{vertex_words}
 use Rattle.draw_bytes.proofs.vertex_words.Goals as goal
 

@@ -1,5 +1,5 @@
 use mathlib.Core.Path.{refl, sym, ◌∙◌}
-use mathlib.Core.List.{◌∷◌}
+use mathlib.Core.List.{[], ◌∷◌}
 use Rattle.lists.proofs.Choice.{stay, leave}
 use Rattle.floats.specs.Num.{bounded_of}
 use Rattle.draw_checks.proofs.Alls.{all_join}

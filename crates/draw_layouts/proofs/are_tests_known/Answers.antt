@@ -1,6 +1,6 @@
 use mathlib.Core.Path.{refl, ap, ◌∙◌}
 use Rattle.lists.proofs.Choice.{stay, leave}
-use Prim.Native.Nat.{ℕ}
+use Prim.Native.Nat.{ℕ, ◌-◌}
 use Rattle.settings.specs.Settings.{read_compare, read_factor}
 use Rattle.draw_layouts.specs.Codes.{compare_known, factor_known}
 use Rattle.draw_layouts.specs.Settings.{tests_known}

@@ -1,7 +1,7 @@
 use mathlib.Core.Path.{refl, sym, ap, ◌∙◌}
 use Rattle.lists.proofs.Choice.{yes, no}
 use borrow.Author.Tests.{eq-eqb, ne_eqb}
-use Prim.Native.Nat.{ℕ}
+use Prim.Native.Nat.{ℕ, ◌-◌}
 use Rattle.draw_layouts.proofs.Signs.{back_at}
 use lib.Dec.{eqb}
 use Rattle.settings.specs.declared.Scissor.TheVariants.{Within}

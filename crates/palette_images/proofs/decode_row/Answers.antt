@@ -1,5 +1,6 @@
 use mathlib.Core.Path.{◌≡◌, refl, ◌∙◌}
 use Rattle.palette_images.specs.Paletted.{index_at, entry_at}
+use Prim.Native.Nat.{◌-◌}
 use native.Mathlib.Omega.{arith}
 use native.Mathlib.Nat.{mul-le-mul}
 use borrow.Author.Rules.{rules}

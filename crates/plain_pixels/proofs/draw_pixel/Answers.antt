@@ -1,4 +1,5 @@
 use mathlib.Core.Path.{◌∙◌, sym}
+use mathlib.Core.List.{[]}
 use native.Mathlib.Omega.{arith}
 use Rattle.pixels.specs.Way.{drawing}
 use Rattle.pixels.proofs.Fragments.{was_not, was_so}

@@ -1,4 +1,5 @@
 use mathlib.Core.Path.{◌∙◌}
+use mathlib.Core.List.{[]}
 use Rattle.lists.specs.Lists.{iter}
 use Rattle.stages.specs.Stages.{stages_color}
 use Rattle.pixels.specs.Way.{drawing, shaded_of, fog_depth_of}

@@ -1,4 +1,4 @@
-use Rattle.std.proofs.Common.{sym, refl, ◌∙◌, arith}
+use Rattle.std.proofs.Common.{◌-◌, sym, refl, ◌∙◌, arith}
 use Rattle.replay.proofs.Sums.{sum_on, sum_end}
 use Rattle.replay.proofs.sum_bytes.Goals as goal
 

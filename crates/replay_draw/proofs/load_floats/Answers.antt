@@ -1,3 +1,4 @@
+use Prim.Native.Nat.{◌-◌}
 use mathlib.Core.Path.{refl}
 use lib.ListN.{length-set}
 use Rattle.replay_draw.proofs.load_floats.Goals as goal

@@ -1,3 +1,4 @@
+use Prim.Native.Nat.{◌-◌}
 use mathlib.Core.Path.{refl}
 use Rattle.replay_draw.proofs.same_bytes.Goals as goal
 

@@ -1,5 +1,6 @@
 use lib.ListN.{length-set}
 use native.Mathlib.Omega.{arith}
+use Prim.Native.Nat.{◌-◌}
 use Rattle.replay_texels.proofs.before.Goals as goal
 
 pub loop-i-smaller : goal.loop-i-smaller

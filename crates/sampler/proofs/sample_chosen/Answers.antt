@@ -1,3 +1,4 @@
+use Prim.Native.Nat.{◌-◌}
 use mathlib.Core.Path.{subst, ◌∙◌}
 use native.Mathlib.Omega.{arith}
 use Rattle.mipmaps.specs.declared.Chosen.{Chosen}

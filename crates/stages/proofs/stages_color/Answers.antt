@@ -1,5 +1,6 @@
 use borrow.Author.Rules.{rules}
 use mathlib.Core.Path.{◌≡◌, ◌∙◌}
+use Prim.Native.Nat.{◌-◌}
 use native.Mathlib.Omega.{arith}
 use Rattle.lists.proofs.Turns.{iter_none, iter_more}
 use Rattle.stages.specs.Stages.{stage_step, stages_color}

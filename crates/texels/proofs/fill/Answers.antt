@@ -3,6 +3,7 @@ use Rattle.texels.proofs.Images.{nth_four}
 use Rattle.lists.proofs.Rows.{flat_none, flat_more, flat_all, row_in}
 use borrow.Author.Rules.{rules}
 use native.Mathlib.Omega.{arith}
+use Prim.Native.Nat.{◌-◌}
 use mathlib.Core.Path.{◌≡◌, refl, ◌∙◌}
 use Rattle.texels.proofs.fill.Goals as goal
 

@@ -1,4 +1,5 @@
 use mathlib.Core.Path.{◌∙◌, sym}
+use mathlib.Core.List.{[]}
 use native.Mathlib.Omega.{arith}
 use Rattle.coverage.specs.Coverage.{weights_of}
 use Rattle.pixels.specs.Way.{drawing}

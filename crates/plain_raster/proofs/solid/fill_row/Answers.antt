@@ -1,4 +1,5 @@
 use mathlib.Core.Path.{refl}
+use Prim.Native.Nat.{◌-◌}
 use native.Mathlib.Omega.{arith}
 use Rattle.raster.specs.Fill.{row_of}
 use Rattle.raster.proofs.Fills.{fill_more, fill_end, pixel_count}
