@@ -1,13 +1,7 @@
-use Prim.Native.Nat.{ℕ, ◌-◌}
-use mathlib.Core.List.{List}
-use lib.Ieee.{Float, nan}
-use lib.ListN.{get_or}
-use Rattle.channels.specs.Channel.{byte_of}
+use Prim.Native.Nat.{◌-◌}
+use Rattle.probes.proofs.Each.{byte_at}
 use Rattle.probes.proofs.Mapped.{mapped_none, mapped_more, mapped_all}
 use Rattle.probes.proofs.probe_floats.probe_to_bytes.Goals as goal
-
-abbrev byte_at : List Float → ℕ → ℕ
-byte_at src i = byte_of (get_or src i nan)
 
 pub loop-i-init : goal.loop-i-init
 loop-i-init c = mapped_none (byte_at c.args.src.now) c.requires

@@ -1,16 +1,9 @@
-use Prim.Native.Nat.{ℕ, ◌-◌}
+use Prim.Native.Nat.{◌-◌}
 use mathlib.Core.Path.{refl, ◌∙◌}
-use mathlib.Core.List.{List}
 use native.Mathlib.Omega.{arith}
-use lib.Ieee.{Float}
-use Rattle.levels.specs.declared.Texture.{Texture}
-use Rattle.sampler.specs.Samples.{sample_of}
-use Rattle.probes.specs.Sampling.{coordinates_from, packed}
+use Rattle.probes.specs.Sampling.{coordinates_from}
 use Rattle.probes.proofs.Mapped.{mapped_none, mapped_more, mapped_all}
 use Rattle.probes.proofs.probe_sampler.fill.Goals as goal
-
-abbrev sample_at : List ℕ → Texture → List Float → ℕ → ℕ
-sample_at store texture coords i = packed (sample_of store texture (coordinates_from coords i))
 
 pub loop-i-init : goal.loop-i-init
 loop-i-init c = mapped_none _ refl

@@ -1,5 +1,6 @@
 use Prim.Native.Nat.{◌-◌}
 use lib.ListN.{length}
+use Rattle.probes.proofs.Each.{sample_at}
 use Rattle.probes.proofs.Mapped.{Mapped}
 use Rattle.probes.proofs.probe_sampler.fill.Given as goal
 

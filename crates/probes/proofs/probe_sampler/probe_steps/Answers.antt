@@ -1,13 +1,8 @@
-use Prim.Native.Nat.{ℕ, ◌-◌}
-use mathlib.Core.List.{List}
-use lib.Ieee.{Float, nan}
-use lib.ListN.{get_or}
+use Prim.Native.Nat.{◌-◌}
 use Rattle.probes.specs.Sampling.{steps_from}
+use Rattle.probes.proofs.Each.{steps_at}
 use Rattle.probes.proofs.Mapped.{mapped_none, mapped_more, mapped_all}
 use Rattle.probes.proofs.probe_sampler.probe_steps.Goals as goal
-
-abbrev steps_at : List Float → ℕ → ℕ
-steps_at src i = steps_from (get_or src i nan)
 
 pub loop-i-init : goal.loop-i-init
 loop-i-init c = mapped_none (steps_at c.args.src.now) c.requires
