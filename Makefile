@@ -2,7 +2,7 @@
 
 ## make check    what has changed is proved, programs run and the comparison made briefly; no must-fail edit
 ## make test     the gate: every crate proved from nothing, every must-fail edit, comparison, boundary, benchmark, example, panels; then its times
-## make times    the times of the last make test: each crate, its edits, each part
+## make times    the times of the last make test, part by part
 ## make lib      the archives of the exported crates, target/staticlib/lib*.a
 ## make panels   forty guests on one frame, their calls interleaved by SEED (1), each held to itself alone; target/panels.png
 ## make example  one guest in C, built as C99 and as C++ and run (examples/panel.c)
@@ -40,7 +40,7 @@ ARCHIVE := $(or $(TILEFRINGE_LIB),target/staticlib)/libtilefringe.a
 lib: $(EXPORTED:%=target/staticlib/lib%.a)
 	@:
 
-target/staticlib/lib%.a: $(shell find crates -name '*.rt' -o -name '*.antt') crates.txt
+target/staticlib/lib%.a: $(shell find crates -name out -prune -o \( -name '*.rt' -o -name '*.antt' \) -print) crates.txt
 	@tools/proofs $*
 
 ifneq ($(TILEFRINGE_LIB),)

@@ -4,5 +4,5 @@ use Rattle.tilefringe.proofs.target.tf_clear_depth.Goals as goal
 
 pub returns : goal.returns
 returns c =
-    let s = c.scissor-s.ensures ∙ handed _ _ _ _ c.ranges.box-x c.ranges.box-y c.ranges.box-width c.ranges.box-height _ in
-    rw (sym s) (c.number.ensures ∙ c.clear_depth.ensures.answer, c.clear_depth.ensures.depths_after)
+    let s = c.scissor-s.ensures ∙ handed _ _ _ _ c.ranges.box_x c.ranges.box_y c.ranges.box_width c.ranges.box_height _ in
+    rw (sym s) (record { answer = c.number.ensures ∙ c.clear_depth.ensures.answer; depths_after = c.clear_depth.ensures.depths_after })
