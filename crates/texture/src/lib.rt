@@ -20,6 +20,7 @@ pub struct Defined {
     pub texture: Texture,
 }
 
+#[tactic(auto, using(std::proofs::lemmas::Bool::Decides::nat_tests), unfolding(crate::specs::Define::stays))]
 fn stay_at(m: MipLevel, k: usize, i: usize) -> MipLevel
     ensures { result ≡ cond (stays k i) m absent }
 {
