@@ -38,7 +38,7 @@ impl Workload for ToByte {
     }
 
     fn bar(&self) -> Option<f64> {
-        Some(0.5)
+        Some(1.65)
     }
 
     fn units(&self) -> u64 {
