@@ -26,12 +26,6 @@ at_or_past s at i (no h) =
 pub three_bits : (s : List ℕ) (at : ℕ) → ThreeBits (alpha_selectors s at)
 three_bits s at i = at_or_past s at i (dec_lt i 16)
 
-pub sub_le : (n k : ℕ) → n - k ≤ n
-sub_le n k = omega arith
-
-pub byte : {a : ℕ} → a < 256 → a ≤ 255
-byte h = omega arith
-
 -- Selectors of k bits in two parts: those of the lower number, then those of the higher one.
 module _ (k m up : ℕ) {down : ℕ} (h : down < 2 ^ (k * m)) where
   abbrev whole : ℕ

@@ -2,10 +2,10 @@
 #![tactic(auto)]
 
 ghost use Rattle.std.specs.Prelude.{◌≡◌, ◌+◌, ◌*◌, ◌/◌, ◌%◌, ◌^◌, ◌≤◌, ◌<◌, length, get_or};
-ghost use Rattle.texels.specs.Texels;
 ghost use Rattle.lists.specs.Lists.{tab};
 ghost use Rattle.alpha_blocks.specs.AlphaBlocks.{mixed, ThreeBits, selector, three_bytes, explicit_alpha, alpha_palette, alpha_selectors, interpolated_alpha};
 
+use std::array;
 use texels::*;
 
 // k n-ths of the way from a to b, rounded down.
@@ -13,25 +13,23 @@ pub fn mix(k: u32, n: u32, a: u8, b: u8) -> u8
     requires { (0 < n) × (n ≤ 8) × (k ≤ n) }
     ensures { result ≡ mixed k n a b }
 {
-    (((n - k) * wide(a) + k * wide(b)) / n) as u8
+    (((n - k) * u32::from(a) + k * u32::from(b)) / n) as u8
+}
+
+// The i-th of a run of selectors of K bits, the lowest bits first.
+pub fn selector<const K: usize>(bits: u32, i: usize) -> u32
+    requires { (K ≤ 8) × (K * i < 32) }
+    ensures { (result ≡ selector K bits i) × (result < 2 ^ K) }
+{
+    (bits >> (K * i)) % (1 << K)
 }
 
 // The low half of a byte is the first of its two.
-fn explicit_alpha(b: u8, i: usize) -> u8
-    ensures { result ≡ Texels.expand4 (b / 2 ^ (4 * (i % 2))) }
-{
-    expand4(wide(b) >> (4 * (i % 2)))
-}
-
 pub fn explicit_alpha_block(s: &[u8], at: usize) -> [u8; 16]
     requires { at + 8 ≤ length s.now }
     ensures { result ≡ explicit_alpha s.now at }
 {
-    let mut out = [0u8; 16];
-    for i in 0..16 {
-        out[i] = explicit_alpha(s[at + i / 2], i);
-    }
-    out
+    array::from_fn(|i| expand::<4>(u32::from(s[at + i / 2]) >> (4 * (i % 2))))
 }
 
 fn alpha_palette(a0: u8, a1: u8) -> [u8; 8]
@@ -67,26 +65,18 @@ fn three_bytes(s: &[u8], at: usize) -> u32
     requires { at + 3 ≤ length s.now }
     ensures { (result ≡ three_bytes s.now at) × (result < 16777216) }
 {
-    half(s, at) + wide(s[at + 2]) * 65536
+    u32::from_le_bytes([s[at], s[at + 1], s[at + 2], 0])
 }
 
-// The i-th of eight selectors of three bits.
-fn selector3(bits: u32, i: usize) -> u8
-    requires { i < 8 }
-    ensures { result ≡ selector 3 bits i }
-{
-    ((bits >> (3 * i)) % 8) as u8
-}
-
-// The i-th of sixteen, from two halves of eight.
+// The i-th of sixteen selectors, from two halves of eight.
 fn half_selector(low: u32, high: u32, i: usize) -> u8
     requires { (low < 16777216) × (i < 16) }
     ensures { result ≡ selector 3 (high * 16777216 + low) i }
 {
     if i < 8 {
-        return selector3(low, i);
+        return selector::<3>(low, i) as u8;
     }
-    selector3(high, i - 8)
+    selector::<3>(high, i - 8) as u8
 }
 
 // The one reader of an alpha block's sixteen selectors of three bits, from its six bytes.
@@ -96,23 +86,14 @@ fn alpha_selectors(s: &[u8], at: usize) -> [u8; 16]
 {
     let low = three_bytes(s, at);
     let high = three_bytes(s, at + 3);
-    let mut out = [0u8; 16];
-    for i in 0..16 {
-        out[i] = half_selector(low, high, i);
-    }
-    out
+    array::from_fn(|i| half_selector(low, high, i))
 }
 
 fn chosen_alphas(palette: [u8; 8], selectors: [u8; 16]) -> [u8; 16]
     requires { ThreeBits selectors }
     ensures { result ≡ tab 16 (λ i. get_or palette (get_or selectors i 0) 0) }
 {
-    let mut out = [0u8; 16];
-    for i in 0..16 {
-        let sel = selectors[i] as usize;
-        out[i] = palette[sel];
-    }
-    out
+    array::from_fn(|i| palette[usize::from(selectors[i])])
 }
 
 pub fn interpolated_alpha_block(s: &[u8], at: usize) -> [u8; 16]

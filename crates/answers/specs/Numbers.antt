@@ -2,8 +2,6 @@
 use Rattle.std.specs.Prelude.{ℕ}
 use Rattle.answers.specs.declared.Refusal.{Refusal}
 use Rattle.answers.specs.declared.Refusal.TheVariants.{Target, Scissor, Viewport, Float, Vertex, Stage, FogCurve, Record, Side, Place, Bytes, Level, Rectangle, Format, Output, Code}
-use Rattle.answers.specs.declared.Answer.{Answer}
-use Rattle.answers.specs.declared.Answer.TheVariants.{Done, Refused}
 
 abbrev pub refusal_number : Refusal → ℕ
 refusal_number Target = 1
@@ -22,7 +20,3 @@ refusal_number Rectangle = 13
 refusal_number Format = 14
 refusal_number Output = 15
 refusal_number Code = 16
-
-abbrev pub number_of : Answer → ℕ
-number_of Done = 0
-number_of (Refused why) = refusal_number why

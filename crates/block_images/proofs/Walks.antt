@@ -2,7 +2,7 @@
 use mathlib.Core.Path.{◌≡◌, refl, sym, ap, ◌∙◌}
 use mathlib.Core.List.{List}
 use Prim.Native.Nat.{ℕ, zero, suc, ◌+◌, ◌*◌, ◌/◌, ◌%◌, ◌≤◌, ◌<◌}
-use native.Mathlib.Nat.{suc-mul, zero-mul, add-zero, zero-add, mul_assoc, mul-le-mul, mul-le-mul_right}
+use native.Mathlib.Nat.{suc-mul, zero-mul, add-zero, zero-add, mul_assoc}
 use native.Mathlib.Decide.{dec_lt}
 use native.Mathlib.Omega.{arith}
 use borrow.Author.Tests.{le-leb, lt-leb}
@@ -10,7 +10,6 @@ use lib.Arith.{digits_lt, digits_div, digits_mod}
 use lib.ListN.{length, take, drop}
 use lib.Seq.{paste, length-paste}
 use Rattle.lists.specs.Lists.{iter}
-use Rattle.lists.proofs.Rows.{row_in}
 use Rattle.blocks.specs.declared.Block.{Block}
 use Rattle.blocks.specs.declared.Block.TheVariants.{Dxt1Rgb, Dxt1Rgba, Dxt3, Dxt5, AtcRgb, AtcExplicit, AtcInterpolated}
 use Rattle.blocks.specs.Blocks.{block_texel, block_bytes}
@@ -165,13 +164,22 @@ module _ (texel : List ℕ → ℕ → ℕ → List ℕ) (four : (s : List ℕ) 
       let f : blocks_over h * blocks_over w * 16 ≡ blocks_over h * (blocks_over w * 16) = mul_assoc (blocks_over h) (blocks_over w) 16 in
       done.texels x y hx hy (omega arith))
 
--- the blocks of a row, and the rows, lie within the data
-pub block_in : (by bx bw bytes : ℕ) → bx < bw → (by * bw + bx) * bytes + bytes ≤ (by + 1) * bw * bytes
-block_in by bx bw bytes h =
-    omega (arith, suc-mul (by * bw + bx) bytes, mul-le-mul_right bytes (row_in by (by + 1) bw bx 1 (omega arith) (omega arith)))
+-- a texel of the image is stored, and any other is dropped
+module _ (w h : ℕ) (texel : ℕ → List ℕ) (bx by i : ℕ) (out : List ℕ) where
+  pub put_inside : bx * 4 + i % 4 < w → by * 4 + i / 4 < h
+      → put_nth w h texel bx by i out ≡ paste out (((by * 4 + i / 4) * w + (bx * 4 + i % 4)) * 4) (texel i) 4
+  unfolding put_nth put_texel
+  put_inside x y = rw (lt-leb w (bx * 4 + i % 4) x, lt-leb h (by * 4 + i / 4) y)
 
-pub row_of_blocks_in : (by bh bw bytes : ℕ) → by < bh → (by + 1) * bw * bytes ≤ bh * bw * bytes
-row_of_blocks_in by bh bw bytes h = mul-le-mul_right bytes (mul-le-mul_right bw (omega arith))
+  pub put_outside : (bx * 4 + i % 4 < w → by * 4 + i / 4 < h → ⊥) → put_nth w h texel bx by i out ≡ out
+  unfolding put_nth put_texel
+  put_outside n = by_side n (dec_lt (bx * 4 + i % 4) w)
+    where
+      by_side : (bx * 4 + i % 4 < w → by * 4 + i / 4 < h → ⊥) → Dec (bx * 4 + i % 4 < w) → put_nth w h texel bx by i out ≡ out
+      by_side n (no a) = rw (le-leb w (bx * 4 + i % 4) (omega arith))
+      by_side n (yes a) =
+          let b : h ≤ by * 4 + i / 4 = omega (arith, n a) in
+          rw (lt-leb w (bx * 4 + i % 4) a, le-leb h (by * 4 + i / 4) b)
 
 pub block_four : (b : Block) (s : List ℕ) (at i : ℕ) → length (block_texel b s at i) ≡ 4
 unfolding block_texel
@@ -185,10 +193,3 @@ few_bytes Dxt5 = omega arith
 few_bytes AtcRgb = omega arith
 few_bytes AtcExplicit = omega arith
 few_bytes AtcInterpolated = omega arith
-
--- a block's number and its place are small
-pub number_small : {by bx bw : ℕ} → by ≤ 256 → bw ≤ 256 → bx ≤ 256 → by * bw + bx ≤ 65792
-number_small hy hw hx = omega (arith, mul-le-mul hy hw)
-
-pub place_small : {n bytes : ℕ} → n ≤ 65792 → bytes ≤ 16 → n * bytes ≤ 1052672
-place_small hn hb = omega (arith, mul-le-mul hn hb)

@@ -1,6 +1,6 @@
 -- Images made of blocks of four by four texels, over the block decoder: `texel s at i` is the i-th texel of the block whose bytes
 -- stand in s from `at` on, and a block takes `bytes` bytes.
-use Rattle.std.specs.Prelude.{cond, List, ◌≡◌, ℕ, ◌+◌, ◌*◌, ◌/◌, ◌%◌, ◌≤◌, leb, length}
+use Rattle.std.specs.Prelude.{cond, List, ℕ, ◌+◌, ◌*◌, ◌/◌, ◌%◌, leb}
 use Rattle.std.proofs.Math.Seq.{paste}
 use Rattle.lists.specs.Lists.{iter}
 use Rattle.texels.specs.Image.{image}
@@ -35,11 +35,3 @@ put_row texel bytes w h s by out =
 
 unfoldable pub put_rows : (List ℕ → ℕ → ℕ → List ℕ) → ℕ → ℕ → ℕ → List ℕ → List ℕ → List ℕ
 put_rows texel bytes w h s out = iter (blocks_over h) (put_row texel bytes w h s) out
-
--- what the walk asks of the sides, the place of the block and the output
-pub record InImage (w h bx by : ℕ) (out : List ℕ) : Type 0 where
-  pub wide : w ≤ 1024
-  pub high : h ≤ 1024
-  pub col : bx ≤ 256
-  pub row : by ≤ 256
-  pub size : length out ≡ h * w * 4

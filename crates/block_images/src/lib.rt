@@ -1,143 +1,93 @@
 // Images made of blocks of four by four texels (texture.rs, decode_compressed_to_rgba).
 #![tactic(auto)]
 
-ghost use Rattle.std.specs.Prelude.{◌≡◌, ◌+◌, ◌*◌, ◌/◌, ◌%◌, ◌≤◌, ◌<◌, length};
-ghost use Rattle.blocks.specs.Blocks.{block_bytes, texel_of, texel_from, block_texel};
-ghost use Rattle.block_images.specs.Walk.{blocks_over, block_image, put_texel, put_block, put_row, put_rows, InImage};
+ghost use Rattle.std.specs.Prelude.{◌≡◌, ◌+◌, ◌*◌, ◌≤◌, ◌<◌, ◌↔◌, IsTrue, length};
+ghost use Rattle.blocks.specs.Blocks.{block_bytes, texel_from, block_texel};
+ghost use Rattle.block_images.specs.Walk.{blocks_over, block_image, put_block, put_row};
 
 use blocks::*;
+use texels::Sides;
+
+// Where a block stands: the image's sides, its column and its row among the blocks.
+#[derive(Clone, Copy)]
+struct Place {
+    sides: Sides,
+    bx: usize,
+    by: usize,
+    ghost col: { bx ≤ 256 },
+    ghost row: { by ≤ 256 },
+}
+
+impl Place {
+    // Whether the image has a texel at (x, y).
+    fn has(self, x: usize, y: usize) -> bool
+        ensures { IsTrue result ↔ ((x < self.sides.w) × (y < self.sides.h)) }
+    {
+        x < self.sides.w && y < self.sides.h
+    }
+
+    // Whether no texel of the block hangs over an edge.
+    fn is_whole(self) -> bool
+        ensures { IsTrue result ↔ ((self.bx * 4 + 4 ≤ self.sides.w) × (self.by * 4 + 4 ≤ self.sides.h)) }
+    {
+        self.bx * 4 + 4 <= self.sides.w && self.by * 4 + 4 <= self.sides.h
+    }
+}
 
 // The blocks that cover a side.
 pub fn block_count(side: usize) -> usize
     requires { side ≤ 1024 }
     ensures { result ≡ blocks_over side }
 {
-    (side + 3) / 4
+    side.div_ceil(4)
 }
 
-// A texel that hangs over the edge is dropped.
-fn put_texel(out: &mut [u8], w: usize, h: usize, x: usize, y: usize, c: [u8; 4])
-    requires { (w ≤ 1024) × (h ≤ 1024) × (length out.old ≡ h * w * 4) }
-    ensures { out.new ≡ put_texel w h x y c out.old }
-{
-    if w <= x {
-        return;
-    }
-    if h <= y {
-        return;
-    }
-    texels::put4(out, (y * w + x) * 4, c);
-}
-
-fn texel_of(c: [u8; 3], alpha: u8) -> [u8; 4]
-    ensures { result ≡ texel_of c alpha }
-{
-    [c[0], c[1], c[2], alpha]
-}
-
-// A block of which some texels may hang over.
-fn put_edge_block(
-    out: &mut [u8],
-    w: usize,
-    h: usize,
-    bx: usize,
-    by: usize,
-    rgb: [[u8; 3]; 16],
-    alpha: [u8; 16],
-)
-    requires { InImage w h bx by out.old }
-    ensures { out.new ≡ put_block w h (texel_from rgb alpha) bx by out.old }
+// A block stored. Of one that is not WHOLE a texel that hangs over the edge is dropped.
+fn put_texels<const WHOLE: bool>(rgb: [[u8; 3]; 16], alpha: [u8; 16], out: &mut [u8], place: Place)
+    requires size { length out.old ≡ place.sides.h * place.sides.w * 4 }
+    requires whole { IsTrue WHOLE → (place.bx * 4 + 4 ≤ place.sides.w) × (place.by * 4 + 4 ≤ place.sides.h) }
+    ensures { out.new ≡ put_block place.sides.w place.sides.h (texel_from rgb alpha) place.bx place.by out.old }
 {
     for i in 0..16 {
-        let colour = rgb[i];
-        let c = texel_of(colour, alpha[i]);
-        put_texel(out, w, h, bx * 4 + i % 4, by * 4 + i / 4, c);
-    }
-}
-
-// A block within the image.
-fn put_whole_block(
-    out: &mut [u8],
-    w: usize,
-    h: usize,
-    bx: usize,
-    by: usize,
-    rgb: [[u8; 3]; 16],
-    alpha: [u8; 16],
-)
-    requires { (bx * 4 + 4 ≤ w) × (by * 4 + 4 ≤ h) × InImage w h bx by out.old }
-    ensures { out.new ≡ put_block w h (texel_from rgb alpha) bx by out.old }
-{
-    for i in 0..16 {
-        let colour = rgb[i];
-        let c = texel_of(colour, alpha[i]);
-        texels::put4(out, ((by * 4 + i / 4) * w + (bx * 4 + i % 4)) * 4, c);
-    }
-}
-
-fn put_block(
-    out: &mut [u8],
-    w: usize,
-    h: usize,
-    bx: usize,
-    by: usize,
-    rgb: [[u8; 3]; 16],
-    alpha: [u8; 16],
-)
-    requires { InImage w h bx by out.old }
-    ensures { out.new ≡ put_block w h (texel_from rgb alpha) bx by out.old }
-{
-    if bx * 4 + 4 <= w {
-        if by * 4 + 4 <= h {
-            put_whole_block(out, w, h, bx, by, rgb, alpha);
-            return;
+        let x = place.bx * 4 + i % 4;
+        let y = place.by * 4 + i / 4;
+        if WHOLE || place.has(x, y) {
+            let [r, g, b] = rgb[i];
+            texels::put4(out, (y * place.sides.w + x) * 4, [r, g, b, alpha[i]]);
         }
     }
-    put_edge_block(out, w, h, bx, by, rgb, alpha);
 }
 
-fn decode_block(
-    b: Block,
-    s: &[u8],
-    at: usize,
-    out: &mut [u8],
-    w: usize,
-    h: usize,
-    bx: usize,
-    by: usize,
-)
-    requires { (at + block_bytes b ≤ length s.now) × InImage w h bx by out.old }
-    ensures { out.new ≡ put_block w h (block_texel b s.now at) bx by out.old }
+fn decode_block(b: Block, s: &[u8], at: usize, out: &mut [u8], place: Place)
+    requires { (at + block_bytes b ≤ length s.now) × (length out.old ≡ place.sides.h * place.sides.w * 4) }
+    ensures { out.new ≡ put_block place.sides.w place.sides.h (block_texel b s.now at) place.bx place.by out.old }
 {
-    let rgb = block_rgb(b, s, at);
-    let alpha = block_alpha(b, s, at);
-    put_block(out, w, h, bx, by, rgb, alpha);
+    let rgb = b.rgb(s, at);
+    let alpha = b.alpha(s, at);
+    if place.is_whole() {
+        put_texels::<true>(rgb, alpha, out, place);
+    } else {
+        put_texels::<false>(rgb, alpha, out, place);
+    }
 }
 
-fn decode_row(b: Block, s: &[u8], out: &mut [u8], w: usize, h: usize, by: usize)
-    requires { ((by + 1) * blocks_over w * block_bytes b ≤ length s.now) × InImage w h 0 by out.old }
-    ensures { out.new ≡ put_row (block_texel b) (block_bytes b) w h s.now by out.old }
+fn decode_row(b: Block, s: &[u8], out: &mut [u8], sides: Sides, by: usize)
+    requires { (by ≤ 256) × ((by + 1) * blocks_over sides.w * block_bytes b ≤ length s.now) × (length out.old ≡ sides.h * sides.w * 4) }
+    ensures { out.new ≡ put_row (block_texel b) (block_bytes b) sides.w sides.h s.now by out.old }
 {
-    let bw = block_count(w);
-    let bytes = block_bytes(b);
+    let bw = block_count(sides.w);
+    let bytes = b.bytes();
     for bx in 0..bw {
-        decode_block(b, s, (by * bw + bx) * bytes, out, w, h, bx, by);
+        let place = Place { sides, bx, by };
+        decode_block(b, s, (by * bw + bx) * bytes, out, place);
     }
 }
 
-fn decode_rows(b: Block, s: &[u8], out: &mut [u8], w: usize, h: usize)
-    requires { (blocks_over h * blocks_over w * block_bytes b ≤ length s.now) × InImage w h 0 0 out.old }
-    ensures { out.new ≡ put_rows (block_texel b) (block_bytes b) w h s.now out.old }
+pub fn decode_blocks(b: Block, s: &[u8], out: &mut [u8], sides: Sides)
+    requires { (blocks_over sides.h * blocks_over sides.w * block_bytes b ≤ length s.now) × (length out.old ≡ sides.h * sides.w * 4) }
+    ensures { out.new ≡ block_image (block_texel b) (block_bytes b) sides.w sides.h s.now }
 {
-    let bh = block_count(h);
-    for by in 0..bh {
-        decode_row(b, s, out, w, h, by);
+    for by in 0..block_count(sides.h) {
+        decode_row(b, s, out, sides, by);
     }
-}
-
-pub fn decode_blocks(b: Block, s: &[u8], out: &mut [u8], w: usize, h: usize)
-    requires { (blocks_over h * blocks_over w * block_bytes b ≤ length s.now) × InImage w h 0 0 out.old }
-    ensures { out.new ≡ block_image (block_texel b) (block_bytes b) w h s.now }
-{
-    decode_rows(b, s, out, w, h);
 }

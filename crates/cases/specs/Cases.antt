@@ -1,5 +1,5 @@
 -- The worked cases that are proved, in one list: those of document 01, and under the number of a change request those worked out for it.
-use Rattle.std.specs.Prelude.{Bool, true, false, cond, List, [], ◌∷◌, ◌++◌, ℕ, ◌*◌, eqb, pos, replicate}
+use Rattle.std.specs.Prelude.{Bool, true, false, cond, List, [], ◌∷◌, ◌++◌, ℕ, ◌*◌, eqb, pos, replicate, Option, Some}
 use Rattle.lists.specs.Lists.{tab, flat}
 use Rattle.texels.specs.Texels.{format_of}
 use Rattle.texels.specs.Plain.{plain_image}
@@ -7,9 +7,8 @@ use Rattle.alpha_blocks.specs.AlphaBlocks.{alpha_selectors, interpolated_alpha}
 use Rattle.compressed.specs.Compressed.{compressed_of, size_of, compressed_image, compressed_check}
 use Rattle.levels.specs.declared.MipLevel.{MipLevel}
 use Rattle.levels.specs.Levels.{level_at, absent, top_of}
-use Rattle.settings.specs.declared.Scissor.{Scissor}
-use Rattle.settings.specs.declared.Scissor.TheVariants.{Within}
 use Rattle.scissor.specs.Scissor.{pixel_in}
+use Rattle.settings.specs.declared.ScissorBox.{ScissorBox}
 
 pub data Case : Type 0 where
   -- a format, a type, a texel's bytes: its red, green, blue and alpha
@@ -27,7 +26,7 @@ pub data Case : Type 0 where
   -- a compressed format, width, height, the bytes of the data and of the output: the number that the decode answers
   answered : ℕ → ℕ → ℕ → ℕ → ℕ → ℕ → Case
   -- a target's width and height, a box: its pixels row by row, 1 in the box and 0 outside
-  inside : ℕ → ℕ → Scissor → List ℕ → Case
+  inside : ℕ → ℕ → Option ScissorBox → List ℕ → Case
   -- a texture's levels: the top level of the chain
   top : List MipLevel → ℕ → Case
 
@@ -100,7 +99,7 @@ cases =
     ∷ answered 0x83F3 4 4 15 64 11
     ∷ answered 0x83F3 1025 1 4112 4100 9
     ∷ answered 0x83F3 0 4 0 0 0
-    ∷ inside 4 4 (Within (record { x = pos 1; y = pos 0; width = pos 2; height = pos 1 }))
+    ∷ inside 4 4 (Some (record { x = pos 1; y = pos 0; width = pos 2; height = pos 1 }))
     (0 ∷ 0 ∷ 0 ∷ 0 ∷ 0 ∷ 0 ∷ 0 ∷ 0 ∷ 0 ∷ 0 ∷ 0 ∷ 0 ∷ 0 ∷ 1 ∷ 1 ∷ 0 ∷ [])
     ∷ top (level_at 0 8 4 ∷ level_at 128 4 2 ∷ level_at 160 2 1 ∷ replicate 8 absent) 2
     ∷ []

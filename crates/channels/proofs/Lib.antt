@@ -1,4 +1,3 @@
 pub mod Cuts
-pub mod LastBits
 pub mod Rounded
 pub mod Scaled

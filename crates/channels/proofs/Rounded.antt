@@ -1,10 +1,10 @@
 -- The byte of a rounded float, by the whole part of 2x. Assumes nothing.
 use Prim.Native.Nat.{ℕ, zero, suc, ◌+◌, ◌-◌, ◌*◌, ◌/◌, ◌%◌, ◌^◌, ◌≤◌, ◌<◌, compare}
 use mathlib.Core.Path.{◌≡◌, refl, sym, ap, subst, ◌∙◌}
-use mathlib.Core.Bool.{Bool, true, false, cond, not}
+use mathlib.Core.Bool.{Bool, true, false, cond}
 use lib.Dec.{T, ltb}
 use lib.IntN.{ℤ, pos}
-use lib.Ieee.{Float, nan, inf, fin, up, down, lt, le, add, sub, mul, size, nearest, odd, units, round, to_unsigned, to_bits, is_nan, fits, of_bits, binary32}
+use lib.Ieee.{Float, nan, inf, fin, up, down, lt, le, mul, size, nearest, odd, units, round, to_unsigned, fits, of_bits, binary32}
 use lib.Ieee.Fits.{down_pos, up_pos, round_is}
 use lib.Ieee.Exact.{HasValue}
 use lib.Ieee.Back.{round_whole}
@@ -18,12 +18,10 @@ use borrow.Author.Tests.{ltb-true, ltb-false, le-ltb}
 use Rattle.lists.proofs.Choice.{true_false}
 use Rattle.floats.specs.Num.{clamp_of}
 use Rattle.floats.proofs.Signs.{nought}
-use Rattle.rounding.specs.Rounding.{half_div, whole_by, round_of}
-use Rattle.rounding.proofs.Near.{big}
+use Rattle.rounding.specs.Rounding.{half_div, whole_by, round_of, Part}
 use Rattle.rounding.proofs.Kept.{half_exact}
 use Rattle.rounding.proofs.Halves.{two, double, half}
 use Rattle.channels.specs.Channel.{held_of, round_byte_of}
-use Rattle.channels.proofs.LastBits.{Fast, fast, nine}
 use Rattle.channels.proofs.Scaled.{full}
 
 -- ---- the byte of a rounded float
@@ -127,16 +125,16 @@ no_byte (fin false zero d) a =
 no_byte (fin false (suc m) d) a = absurd (omega (arith, ltb-false (0 * 1 * down d) (suc m * up d * 1) a, mul-pos (zero-lt-suc m) (up_pos d)))
 
 -- ---- between: 2x is exact, and below 510
-abbrev Right : Float → Float → Type 0
-Right x v = Fast 9 v × ((to_unsigned 9 v + 1) / 2 ≡ round_byte_of x)
+abbrev pub Right : Float → Float → Type 0
+Right x v = Part 9 v × ((to_unsigned 9 v + 1) / 2 ≡ round_byte_of x)
 
-fast_value : (v : Float) (a c : ℕ) → 0 < c → HasValue v false a c → a < 510 * c → Fast 9 v × (to_unsigned 9 v ≡ a / c)
+part_value : (v : Float) (a c : ℕ) → 0 < c → HasValue v false a c → a < 510 * c → Part 9 v × (to_unsigned 9 v ≡ a / c)
 unfolding to_unsigned
-fast_value nan a c C h l = absurd h
-fast_value (inf s) a c C h l = absurd h
-fast_value (fin true m e) a c C h l = absurd (true_false h.0)
-fast_value (fin false m e) a c C h l = (
-  fast 9 nine m e (lt_of_mul-lt-mul_right c (subst (λ (z : ℕ). z < 2 ^ 9 * down e * c) (sym h.1) (lt_of_lt_of_le (mul-lt-mul_of_pos_right (more a c l) (down_pos e)) (le_of_eq (mul_right_comm (2 ^ 9) c (down e)))))),
+part_value nan a c C h l = absurd h
+part_value (inf s) a c C h l = absurd h
+part_value (fin true m e) a c C h l = absurd (true_false h.0)
+part_value (fin false m e) a c C h l = (
+  (lt_of_mul-lt-mul_right c (subst (λ (z : ℕ). z < 2 ^ 9 * down e * c) (sym h.1) (lt_of_lt_of_le (mul-lt-mul_of_pos_right (more a c l) (down_pos e)) (le_of_eq (mul_right_comm (2 ^ 9) c (down e)))))),
   omega (arith, div_same (m * up e) (down e) a c (down_pos e) C h.1, (div-lt_iff_lt-mul {k = c} {x = a} {y = 510} C).1 l),
 )
   where
@@ -155,7 +153,7 @@ between (fin false (suc m) d) f a b =
     let l : A < 255 * down d = omega (arith, ltb-true (suc m * up d * 1) (255 * 1 * down d) b) in
     let n = half_div A (down d) in
     let s : n < 256 = (div-lt_iff_lt-mul {k = down d * 2} {x = A * 2 + down d} {y = 256} (omega (arith, down_pos d))).1 (omega arith) in
-    let v = fast_value (mul binary32 (fin false (suc m) d) two) (A * 2) (down d * 1) (omega (arith, down_pos d)) (double m d f (omega (arith, down_pos d))) (omega arith) in
+    let v = part_value (mul binary32 (fin false (suc m) d) two) (A * 2) (down d * 1) (omega (arith, down_pos d)) (double m d f (omega (arith, down_pos d))) (omega arith) in
     (v.0, ap (λ (z : ℕ). (z + 1) / 2) v.1 ∙ half A (down d) (down_pos d) ∙ byte_whole (round binary32 false n 1) n (round_whole binary32 false n (omega arith)) (omega arith) ∙ byte_is false (suc m) d)
 
 zero_two : mul binary32 nought two ≡ nought
@@ -172,18 +170,12 @@ right x f = go (lt nought x) (lt x full) refl refl
   where
     go : (a b : Bool) → lt nought x ≡ a → lt x full ≡ b → Right x (mul binary32 (cond a (cond b x full) nought) two)
     go true true a b = between x f a b
-    go true false a b = (subst (Fast 9) (sym full_two) (fast 9 nine 255 (pos 1) (omega arith)), ap (λ (z : Float). (to_unsigned 9 z + 1) / 2) full_two ∙ high_byte x a b)
-    go false b a e = (subst (Fast 9) (sym zero_two) (fast 9 nine 0 (pos 0) (omega arith)), ap (λ (z : Float). (to_unsigned 9 z + 1) / 2) zero_two ∙ no_byte x a)
+    go true false a b = (subst (Part 9) (sym full_two) (omega arith), ap (λ (z : Float). (to_unsigned 9 z + 1) / 2) full_two ∙ high_byte x a b)
+    go false b a e = (subst (Part 9) (sym zero_two) (omega arith), ap (λ (z : Float). (to_unsigned 9 z + 1) / 2) zero_two ∙ no_byte x a)
 
 -- ---- as the code has it: y is x held to 0 to 255
-pub doubled_number : (y x : Float) → T (fits binary32 x) → y ≡ held_of x full → T (not (is_nan (add binary32 (mul binary32 y two) big)))
-doubled_number y x f e = (subst (λ (z : Float). Right x (mul binary32 z two)) (sym e) (right x f)).0.number
-
-pub doubled_byte : (y x : Float) (u : ℕ) → T (fits binary32 x) → y ≡ held_of x full → u ≡ cond (lt (mul binary32 y two) (sub binary32 (add binary32 (mul binary32 y two) big) big)) 511 0
-    → ((to_bits binary32 (add binary32 (mul binary32 y two) big) % 512 + u) % 512 + 1) / 2 ≡ round_byte_of x
-doubled_byte y x u f e h =
-    let r = subst (λ (z : Float). Right x (mul binary32 z two)) (sym e) (right x f) in
-    ap (λ (z : ℕ). (z + 1) / 2) (r.0.up_is u h) ∙ r.1
+pub doubled : (y x : Float) → T (fits binary32 x) → y ≡ held_of x full → Right x (mul binary32 y two)
+doubled y x f e = subst (λ (z : Float). Right x (mul binary32 z two)) (sym e) (right x f)
 
 pub small : (x : Float) → round_byte_of x < 2 ^ 8
 unfolding round_byte_of

@@ -4,7 +4,7 @@ use mathlib.Core.Path.{◌≡◌, refl, sym, ap, subst, ◌∙◌}
 use mathlib.Core.Bool.{Bool, true, false, cond, not, ◌&&◌, ◌||◌}
 use lib.Dec.{T, ltb, eqb, ltb→lt, eqb→eq}
 use lib.IntN.{ℤ, pos, negsuc}
-use lib.Ieee.{Float, nan, inf, fin, up, down, lt, le, eq, add, sub, sum, mul, size, nearest, odd, units, round, to_unsigned, to_bits, is_nan, of_bits, binary32}
+use lib.Ieee.{Float, nan, inf, fin, up, down, lt, le, eq, add, sum, mul, size, nearest, odd, units, round, to_unsigned, of_bits, binary32}
 use lib.Ieee.Fits.{down_pos, and_l, round_is}
 use lib.Ieee.Order.{round_mono}
 use lib.Ieee.Scale.{round_same}
@@ -14,9 +14,8 @@ use borrow.Author.Tests.{ltb-true, ltb-false, le-ltb}
 use Rattle.floats.specs.Num.{clamp_of}
 use Rattle.floats.proofs.Cut.{two_to}
 use Rattle.floats.proofs.Signs.{nought}
-use Rattle.rounding.proofs.Near.{big}
+use Rattle.rounding.specs.Rounding.{Part}
 use Rattle.channels.specs.Channel.{byte_of, held_of}
-use Rattle.channels.proofs.LastBits.{Fast, fast, eight}
 
 abbrev one : Float
 one = two_to 0
@@ -101,25 +100,25 @@ moved m e h =
     (subst (λ (v : Float). T (le (round binary32 false (m * up e * 2 + 1 * down e) (down e * 2)) v)) at_511
     (round_mono binary32 (m * up e * 2 + 1 * down e) (down e * 2) 511 2 (omega (arith, down_pos e)) (zero-lt-suc 1) (omega arith)))
 
-fast_unit : (k : ℕ) (d : ℤ) → k * up d ≤ down d → Fast 8 (scaled (fin false k d))
-fast_unit k d h =
+part_unit : (k : ℕ) (d : ℤ) → k * up d ≤ down d → Part 8 (scaled (fin false k d))
+part_unit k d h =
     let p = product k d h in
     let q = moved p.digits p.exponent p.bound in
-    subst (Fast 8) (sym (ap (λ (v : Float). add binary32 v half) p.is ∙ q.is)) (fast 8 eight q.digits q.exponent (omega (arith, q.bound, down_pos q.exponent)))
+    subst (Part 8) (sym (ap (λ (v : Float). add binary32 v half) p.is ∙ q.is)) (omega (arith, q.bound, down_pos q.exponent))
 
 -- ---- every v
-held_fast : (v : Float) → Fast 8 (scaled (held_of v one))
+held_part : (v : Float) → Part 8 (scaled (held_of v one))
 unfolding held_of of_bits lt
-held_fast nan = fast_unit 0 (pos 0) (omega arith)
-held_fast (inf true) = fast_unit 0 (pos 0) (omega arith)
-held_fast (inf false) = fast_unit 1 (pos 0) (omega arith)
-held_fast (fin true k d) = fast_unit 0 (pos 0) (omega arith)
-held_fast (fin false k d) = go (ltb (0 * 1 * down d) (k * up d * 1)) (ltb (k * up d * 1) (1 * 1 * down d)) (ltb→lt (k * up d * 1) (1 * 1 * down d))
+held_part nan = part_unit 0 (pos 0) (omega arith)
+held_part (inf true) = part_unit 0 (pos 0) (omega arith)
+held_part (inf false) = part_unit 1 (pos 0) (omega arith)
+held_part (fin true k d) = part_unit 0 (pos 0) (omega arith)
+held_part (fin false k d) = go (ltb (0 * 1 * down d) (k * up d * 1)) (ltb (k * up d * 1) (1 * 1 * down d)) (ltb→lt (k * up d * 1) (1 * 1 * down d))
   where
-    go : (a b : Bool) → (T b → k * up d * 1 < 1 * 1 * down d) → Fast 8 (scaled (cond a (cond b (fin false k d) one) nought))
-    go true true h = fast_unit k d (omega (arith, h tt))
-    go true false h = fast_unit 1 (pos 0) (omega arith)
-    go false b h = fast_unit 0 (pos 0) (omega arith)
+    go : (a b : Bool) → (T b → k * up d * 1 < 1 * 1 * down d) → Part 8 (scaled (cond a (cond b (fin false k d) one) nought))
+    go true true h = part_unit k d (omega (arith, h tt))
+    go true false h = part_unit 1 (pos 0) (omega arith)
+    go false b h = part_unit 0 (pos 0) (omega arith)
 
 -- equal fractions have equal products
 product_same : (k : ℕ) (d : ℤ) (n : ℕ) → k * up d ≡ n * down d → mul binary32 (fin false k d) full ≡ round binary32 false (n * 255) 1
@@ -179,9 +178,8 @@ held_byte (fin false k d) =
     go false b false f g h i j = ap (λ (p : Float). to_unsigned 8 (add binary32 p half)) (zero_is ∙ sym (product_same k d 0 (omega (arith, f refl))))
 
 -- ---- as the code has it: x is v held to 0 to 1
-pub scaled_number : (x v : Float) → x ≡ held_of v one → T (not (is_nan (add binary32 (scaled x) big)))
-scaled_number x v e = (subst (λ (y : Float). Fast 8 (scaled y)) (sym e) (held_fast v)).number
+pub scaled_part : (x v : Float) → x ≡ held_of v one → Part 8 (scaled x)
+scaled_part x v e = subst (λ (y : Float). Part 8 (scaled y)) (sym e) (held_part v)
 
-pub scaled_byte : (x v : Float) (u : ℕ) → x ≡ held_of v one → u ≡ cond (lt (scaled x) (sub binary32 (add binary32 (scaled x) big) big)) 255 0
-    → (to_bits binary32 (add binary32 (scaled x) big) % 256 + u) % 256 ≡ byte_of v
-scaled_byte x v u e h = (subst (λ (y : Float). Fast 8 (scaled y)) (sym e) (held_fast v)).up_is u h ∙ ap (λ (y : Float). to_unsigned 8 (scaled y)) e ∙ held_byte v
+pub scaled_byte : (x v : Float) → x ≡ held_of v one → to_unsigned 8 (scaled x) ≡ byte_of v
+scaled_byte x v e = ap (λ (y : Float). to_unsigned 8 (scaled y)) e ∙ held_byte v

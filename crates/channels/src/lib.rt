@@ -14,6 +14,7 @@ pub fn to_unit(v: u8) -> f32
 }
 
 // x where it is above 0, else 0: one instruction.
+// Kept: std's f32::max promises either of two equal numbers, so -0.0 might stay, which held_of makes 0.
 fn from_zero(x: f32) -> f32
     ensures { result ≡ cond (Ieee.lt zero32 x) x zero32 }
 {
@@ -29,22 +30,18 @@ fn held(x: f32, top: f32) -> f32
     if y < top { y } else { top }
 }
 
-// (v.clamp(0.0, 1.0) * 255.0 + 0.5) as u8, by the last bits of a sum with 2^23.
+// (v.clamp(0.0, 1.0) * 255.0 + 0.5) as u8
 pub fn to_byte(v: f32) -> u8
     ensures { result ≡ byte_of v }
 {
     let t = held(v, 1.0) * 255.0 + 0.5;
-    let r = t + 8388608.0;
-    let up = if r - 8388608.0 > t { 255u32 } else { 0u32 };
-    ((f32::to_bits(r) % 256 + up) % 256) as u8
+    rounding::whole_part::<8>(t) as u8
 }
 
-// x.round().clamp(0.0, 255.0) as u8: half of the whole part of 2x, and one, by the last bits of a sum with 2^23.
+// x.round().clamp(0.0, 255.0) as u8: half of the whole part of 2x, and one.
 pub fn rounded_byte(x: f32) -> u8
     ensures { result ≡ round_byte_of x }
 {
     let t = held(x, 255.0) * 2.0;
-    let r = t + 8388608.0;
-    let up = if r - 8388608.0 > t { 511u32 } else { 0u32 };
-    (((f32::to_bits(r) % 512 + up) % 512 + 1) / 2) as u8
+    ((rounding::whole_part::<9>(t) + 1) / 2) as u8
 }

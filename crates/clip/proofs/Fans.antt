@@ -1,30 +1,29 @@
 -- The triangles left by clipping: how a loop runs over a fan, how many there are, and that a triangle wholly inside is left whole. Assumes nothing.
 use Prim.Native.Nat.{ℕ, zero, suc, ◌+◌, ◌-◌, ◌<◌, ◌≤◌}
 use mathlib.Core.Path.{◌≡◌, refl, sym, ◌∙◌}
-use mathlib.Core.Bool.{Bool, true, false, cond}
+use mathlib.Core.Bool.{Bool, true, false, cond, ◌&&◌}
 use mathlib.Core.List.{List, [], ◌∷◌}
-use lib.Ieee.{Float}
 use lib.ListN.{length, get_or, drop, drop_of_length-le}
 use lib.Seq.{drop-cons}
 use native.Mathlib.Numerals.{add-one}
 use native.Mathlib.Decide.{dec_lt}
 use native.Mathlib.Omega.{arith}
-use Rattle.lists.specs.Lists.{turns, between}
+use Rattle.lists.specs.Lists.{between}
 use Rattle.lists.proofs.Turns.{between_more, between_done}
 use Rattle.lists.proofs.Choice.{was_true, true_false}
 use Rattle.vertices.specs.declared.Vertex.{Vertex}
-use Rattle.vertices.specs.Vertex.{inside, inside_from, inside_frustum, past}
-use Rattle.polygon.specs.Corners.{vertex_at, corners_of}
-use Rattle.polygon.proofs.Corners.{length_corners, corner_is, corners_none}
-use Rattle.clip.specs.Clip.{insides, clip_plane, clip_from, clipped, all_inside}
+use Rattle.std.specs.List.{list_all}
+use Rattle.vertices.specs.declared.Plane.{Plane}
+use Rattle.vertices.specs.Vertex.{planes, inside, inside_frustum, past}
+use Rattle.clip.specs.Clip.{insides, clip_plane, clip_each, clipped, all_inside}
 use Rattle.clip.specs.Fan.{Triangle, triangle_of, fan_at, fan_of, left_of, draw_each}
 use Rattle.clip.proofs.Laws.{clipped_few}
 
--- ---- a loop over the fan of the polygon that an array holds
+-- ---- a loop over the fan of a polygon
 
 -- the step of triangle i: corner 0 with corners i and i + 1
-unfoldable pub fan_step : {S : Type 0} → (Triangle → S → S) → List Float → ℕ → S → S
-fan_step f s i x = f (triangle_of (vertex_at s 0) (vertex_at s i) (vertex_at s (i + 1))) x
+unfoldable pub fan_step : {S : Type 0} → (Triangle → S → S) → List Vertex → ℕ → S → S
+fan_step f l i x = f (triangle_of (get_or l 0 past) (get_or l i past) (get_or l (i + 1) past)) x
 
 module _ {S : Type 0} (f : Triangle → S → S) (v : Vertex) (l : List Vertex) where
   abbrev at : ℕ → S → S
@@ -54,31 +53,11 @@ module _ {S : Type 0} (f : Triangle → S → S) (v : Vertex) (l : List Vertex) 
   from zero i s h = ended i s (omega arith)
   from (suc n) i s h = goes i s (λ t. from n (i + 1) t (omega arith)) (dec_lt (i + 1) (length l))
 
-turns_same : {S : Type 0} (f g : ℕ → S → S) (k n : ℕ) (s : S) → ((i : ℕ) (t : S) → i < k + n → f i t ≡ g i t) → turns f k n s ≡ turns g k n s
-unfolding turns
-turns_same f g k zero s h = refl
-turns_same f g k (suc n) s h = rw (h k s (omega arith)) (turns_same f g (k + 1) n (g k s) (λ i t b. h i t (omega arith)))
-
-between_same : {S : Type 0} (f g : ℕ → S → S) (k e : ℕ) (s : S) → k ≤ e → ((i : ℕ) (t : S) → i < e → f i t ≡ g i t) → between f k e s ≡ between g k e s
-unfolding between
-between_same f g k e s b h = turns_same f g k (e - k) s (λ i t c. h i t (omega arith))
-
-fan_list : {S : Type 0} (f : Triangle → S → S) (l : List Vertex) (s : S) → draw_each f (fan_of l) s ≡ between (λ i. f (triangle_of (get_or l 0 past) (get_or l i past) (get_or l (i + 1) past))) 1 (length l - 1) s
-unfolding fan_of draw_each
-fan_list f [] s = sym (between_done _ s 1 (0 - 1) (omega arith))
-fan_list f (v ∷ l) s = from f v (v ∷ l) (length l) 1 s (omega arith)
-
--- a loop `for i in 1..n - 1` over the corners of an array draws the fan of its first n
-pub fan_loop : {S : Type 0} (f : Triangle → S → S) (n : ℕ) (s : List Float) (x : S) → 2 ≤ n → draw_each f (fan_of (corners_of n s)) x ≡ between (fan_step f s) 1 (n - 1) x
-unfolding fan_step
-fan_loop f n s x h =
-    fan_list f (corners_of n s) x
-    ∙ rw (length_corners n s) (between_same _ (fan_step f s) 1 (n - 1) x (omega arith) (λ i t b. rw (corner_is n s 0 (omega arith), corner_is n s i (omega arith), corner_is n s (i + 1) (omega arith))))
-
--- no corners, no triangles
-pub fan_none : {S : Type 0} (f : Triangle → S → S) (s : List Float) (x : S) → draw_each f (fan_of (corners_of 0 s)) x ≡ x
-unfolding fan_of draw_each
-fan_none f s x = rw corners_none
+-- a loop `for i in 1..n - 1` over n corners draws their fan
+pub fan_loop : {S : Type 0} (f : Triangle → S → S) (l : List Vertex) (x : S) → draw_each f (fan_of l) x ≡ between (fan_step f l) 1 (length l - 1) x
+unfolding fan_step fan_of draw_each
+fan_loop f [] x = sym (between_done _ x 1 (0 - 1) (omega arith))
+fan_loop f (v ∷ l) x = from f v (v ∷ l) (length l) 1 x (omega arith)
 
 -- ---- how many
 
@@ -106,30 +85,30 @@ left_few a b c =
 
 -- ---- a triangle wholly inside
 
-in_first : (p n : ℕ) (v : Vertex) → inside_from p (suc n) v ≡ true → (inside p v ≡ true) × (inside_from (suc p) n v ≡ true)
-unfolding inside_from
-in_first p n v e = was_true (inside p v) e (λ z. true_false (sym z))
+both : (s t : Bool) → (s && t) ≡ true → (s ≡ true) × (t ≡ true)
+both true t e = (refl, e)
+both false t e = absurd (true_false (sym e))
 
 module _ (a b c : Vertex) where
-  stays_in : (p : ℕ) → inside p a ≡ true → inside p b ≡ true → inside p c ≡ true → clip_plane p (a ∷ b ∷ c ∷ []) ≡ a ∷ b ∷ c ∷ []
+  stays_in : (p : Plane) → inside p a ≡ true → inside p b ≡ true → inside p c ≡ true → clip_plane p (a ∷ b ∷ c ∷ []) ≡ a ∷ b ∷ c ∷ []
   unfolding clip_plane insides
   stays_in p ea eb ec = rw (ea, eb, ec)
 
-  kept_in : (n p : ℕ) → inside_from p n a ≡ true → inside_from p n b ≡ true → inside_from p n c ≡ true → clip_from p n (a ∷ b ∷ c ∷ []) ≡ a ∷ b ∷ c ∷ []
-  unfolding clip_from
-  kept_in zero p ea eb ec = refl
-  kept_in (suc n) p ea eb ec =
-      let ha = in_first p n a ea in
-      let hb = in_first p n b eb in
-      let hc = in_first p n c ec in
-      rw (stays_in p ha.0 hb.0 hc.0) (kept_in n (suc p) ha.1 hb.1 hc.1)
+  kept_in : (ps : List Plane) → list_all (λ p. inside p a) ps ≡ true → list_all (λ p. inside p b) ps ≡ true → list_all (λ p. inside p c) ps ≡ true → clip_each ps (a ∷ b ∷ c ∷ []) ≡ a ∷ b ∷ c ∷ []
+  unfolding clip_each
+  kept_in [] ea eb ec = refl
+  kept_in (p ∷ ps) ea eb ec =
+      let ha = both (inside p a) _ ea in
+      let hb = both (inside p b) _ eb in
+      let hc = both (inside p c) _ ec in
+      rw (stays_in p ha.0 hb.0 hc.0) (kept_in ps ha.1 hb.1 hc.1)
 
   pub clipped_inside : all_inside a b c ≡ true → clipped (a ∷ b ∷ c ∷ []) ≡ a ∷ b ∷ c ∷ []
   unfolding all_inside clipped inside_frustum
   clipped_inside e =
       let ha = was_true (inside_frustum a) e (λ z. true_false (sym z)) in
       let hb = was_true (inside_frustum b) ha.1 (λ z. true_false (sym z)) in
-      kept_in 7 0 ha.0 hb.0 hb.1
+      kept_in planes ha.0 hb.0 hb.1
 
   either_same : (t : Bool) {x y : List Triangle} → (t ≡ true → x ≡ y) → cond t x y ≡ y
   either_same true h = h refl

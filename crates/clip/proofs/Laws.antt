@@ -2,21 +2,23 @@
 use mathlib.Core.Bool.{Bool, true, false, cond, beq}
 use mathlib.Core.Path.{◌≡◌, refl, sym, ◌∙◌}
 use mathlib.Core.List.{List, [], ◌∷◌, ◌++◌}
-use Prim.Native.Nat.{ℕ, zero, suc, ◌+◌, ◌-◌, ◌*◌, ◌/◌, ◌%◌, ◌≤◌, ◌<◌}
+use Prim.Native.Nat.{ℕ, zero, suc, ◌+◌, ◌*◌, ◌/◌, ◌%◌, ◌≤◌, ◌<◌}
 use native.Mathlib.Nat.{mod-eq_of_lt, mod_self}
 use native.Mathlib.Numerals.{add-one}
 use native.Mathlib.Decide.{dec_lt}
 use native.Mathlib.Omega.{arith}
+use Rattle.std.proofs.lemmas.Grind.{common_steps}
 use lib.Dec.{eqb, ltb}
 use borrow.Author.Tests.{lt-ltb, le-ltb, eq-eqb, ne_eqb}
 use lib.ListN.{length, get_or, drop, length-append, drop_of_length-le}
 use lib.Seq.{drop-cons}
 use Rattle.vertices.specs.declared.Vertex.{Vertex}
 use Rattle.floats.specs.Num.{◌⊖◌, ◌⊘◌, zero32}
-use Rattle.vertices.specs.Vertex.{inside, distance, lerp}
+use Rattle.vertices.specs.declared.Plane.{Plane}
+use Rattle.vertices.specs.Vertex.{planes, inside, distance, lerp}
 use lib.Ieee as Ieee
 use lib.Ieee.{Float}
-use Rattle.clip.specs.Clip.{differ, cross, kept, crossing, head_or, walk, walked, one, insides, clip_plane, clip_from, clipped}
+use Rattle.clip.specs.Clip.{differ, cross, kept, crossing, head_or, walk, walked, insides, clip_plane, clip_each, clipped}
 
 -- ---- the corner after corner i
 
@@ -28,50 +30,50 @@ next_of l d i h (no m) =
     let z : length l ≤ i + 1 = omega arith in
     rw (drop_of_length-le l z, e, mod_self (length l))
 
-module _ (p : ℕ) (l : List Vertex) (d : Vertex) (i : ℕ) (h : i < length l) where
+module _ (p : Plane) (l : List Vertex) (d : Vertex) (i : ℕ) (h : i < length l) where
   walk_on : walk p (get_or l 0 d) (drop i l)
       ≡ kept p (get_or l i d) ++ (crossing p (get_or l i d) (get_or l ((i + 1) % length l) d) ++ walk p (get_or l 0 d) (drop (i + 1) l))
   unfolding walk
   walk_on = rw (drop-cons l i d h, ← next_of l d i h (dec_lt (i + 1) (length l)), add-one)
 
-  pub insides_on : insides p (drop i l) ≡ one (inside p (get_or l i d)) + insides p (drop (i + 1) l)
-  unfolding insides
-  insides_on = rw (drop-cons l i d h, add-one)
-
 -- what is left of the walk at corner i
-unfoldable pub rest : ℕ → List Vertex → ℕ → List Vertex
+unfoldable pub rest : Plane → List Vertex → ℕ → List Vertex
 rest p [] i = []
 rest p (a ∷ l) i = walk p a (drop i (a ∷ l))
 
-pub rest_start : (p : ℕ) (l : List Vertex) → rest p l 0 ≡ walked p l
+pub rest_start : (p : Plane) (l : List Vertex) → rest p l 0 ≡ walked p l
 unfolding rest walked
 rest_start p [] = refl
 rest_start p (a ∷ l) = refl
 
-rest_walk : (p : ℕ) (l : List Vertex) (d : Vertex) (i : ℕ) → i < length l → rest p l i ≡ walk p (get_or l 0 d) (drop i l)
+rest_walk : (p : Plane) (l : List Vertex) (d : Vertex) (i : ℕ) → i < length l → rest p l i ≡ walk p (get_or l 0 d) (drop i l)
 unfolding rest
 rest_walk p [] d i h = absurd (omega arith)
 rest_walk p (a ∷ l) d i h = refl
 
-pub rest_end : (p : ℕ) (l : List Vertex) (i : ℕ) → length l ≤ i → rest p l i ≡ []
+pub rest_end : (p : Plane) (l : List Vertex) (i : ℕ) → length l ≤ i → rest p l i ≡ []
 unfolding rest walk
 rest_end p [] i h = refl
 rest_end p (a ∷ l) i h = rw (drop_of_length-le (a ∷ l) h)
 
-rest_next : (p : ℕ) (l : List Vertex) (d : Vertex) (i : ℕ) → i < length l → rest p l (i + 1) ≡ walk p (get_or l 0 d) (drop (i + 1) l)
+rest_next : (p : Plane) (l : List Vertex) (d : Vertex) (i : ℕ) → i < length l → rest p l (i + 1) ≡ walk p (get_or l 0 d) (drop (i + 1) l)
 unfolding rest
 rest_next p [] d i h = absurd (omega arith)
 rest_next p (a ∷ l) d i h = refl
 
-pub rest_on : (p : ℕ) (l : List Vertex) (d : Vertex) (i : ℕ) → i < length l
+pub rest_on : (p : Plane) (l : List Vertex) (d : Vertex) (i : ℕ) → i < length l
     → rest p l i ≡ kept p (get_or l i d) ++ (crossing p (get_or l i d) (get_or l ((i + 1) % length l) d) ++ rest p l (i + 1))
 rest_on p l d i h = rest_walk p l d i h ∙ walk_on p l d i h ∙ rw (rest_next p l d i h)
 
-pub insides_end : (p : ℕ) (l : List Vertex) (i : ℕ) → length l ≤ i → insides p (drop i l) ≡ 0
-unfolding insides
-insides_end p l i h = rw (drop_of_length-le l h)
-
 -- ---- how many
+
+-- 1 or 0
+abbrev one : Bool → ℕ
+one b = cond b 1 0
+
+insides_cons : (p : Plane) (a : Vertex) (l : List Vertex) → insides p (a ∷ l) ≡ one (inside p a) + insides p l
+unfolding insides
+insides_cons p a l = grind (arith, common_steps)
 
 length_if : (t : Bool) (v : Vertex) → length (cond t (v ∷ []) []) ≡ one t
 length_if true v = refl
@@ -90,24 +92,24 @@ differ_out false true = omega arith
 differ_out false false = omega arith
 
 -- an edge pushes its first corner if that is inside, and one more if the edge changes sides
-length_edge : (p : ℕ) (a b : Vertex) (l : List Vertex) → length (kept p a ++ (crossing p a b ++ l)) ≡ one (inside p a) + (one (differ (inside p a) (inside p b)) + length l)
+length_edge : (p : Plane) (a b : Vertex) (l : List Vertex) → length (kept p a ++ (crossing p a b ++ l)) ≡ one (inside p a) + (one (differ (inside p a) (inside p b)) + length l)
 unfolding kept crossing
 length_edge p a b l = simp (length-append, length_if)
 
 -- each change of sides is charged to its inside end, or to its outside end
-module _ (p : ℕ) (first : Vertex) where
+module _ (p : Plane) (first : Vertex) where
   few_in : (a : Vertex) (l : List Vertex) → length (walk p first (a ∷ l)) + one (inside p a) ≤ 3 * insides p (a ∷ l) + one (inside p first)
   unfolding walk insides head_or
-  few_in a [] = omega (arith, length_edge p a first [], differ_in (inside p a) (inside p first))
-  few_in a (b ∷ l) = omega (arith, length_edge p a b (walk p first (b ∷ l)), differ_in (inside p a) (inside p b), few_in b l)
+  few_in a [] = omega (arith, insides_cons p a [], length_edge p a first [], differ_in (inside p a) (inside p first))
+  few_in a (b ∷ l) = omega (arith, insides_cons p a (b ∷ l), length_edge p a b (walk p first (b ∷ l)), differ_in (inside p a) (inside p b), few_in b l)
 
   few_out : (a : Vertex) (l : List Vertex) → length (walk p first (a ∷ l)) + insides p (a ∷ l) + one (inside p first) ≤ 2 * length (a ∷ l) + one (inside p a)
   unfolding walk insides head_or
-  few_out a [] = omega (arith, length_edge p a first [], differ_out (inside p a) (inside p first))
-  few_out a (b ∷ l) = omega (arith, length_edge p a b (walk p first (b ∷ l)), differ_out (inside p a) (inside p b), few_out b l)
+  few_out a [] = omega (arith, insides_cons p a [], length_edge p a first [], differ_out (inside p a) (inside p first))
+  few_out a (b ∷ l) = omega (arith, insides_cons p a (b ∷ l), length_edge p a b (walk p first (b ∷ l)), differ_out (inside p a) (inside p b), few_out b l)
 
 -- at most three halves as many
-pub walked_few : (p : ℕ) (l : List Vertex) → 2 * length (walked p l) ≤ 3 * length l
+pub walked_few : (p : Plane) (l : List Vertex) → 2 * length (walked p l) ≤ 3 * length l
 unfolding walked
 walked_few p [] = omega arith
 walked_few p (a ∷ l) = omega (arith, few_in p a a l, few_out p a a l)
@@ -116,23 +118,14 @@ either_few : (t : Bool) (x y : List Vertex) (m : ℕ) → 2 * length x ≤ m →
 either_few true x y m f g = f
 either_few false x y m f g = g
 
-pub clip_few : (p : ℕ) (l : List Vertex) → 2 * length (clip_plane p l) ≤ 3 * length l
+pub clip_few : (p : Plane) (l : List Vertex) → 2 * length (clip_plane p l) ≤ 3 * length l
 unfolding clip_plane
 clip_few p l =
     either_few (eqb (insides p l) (length l)) l _ _ (omega arith) (either_few (eqb (insides p l) 0) [] _ _ (omega arith) (walked_few p l))
 
 -- ---- the three cases of a plane, by the count n of the corners inside
 
-one_few : (t : Bool) → one t ≤ 1
-one_few true = omega arith
-one_few false = omega arith
-
-pub insides_few : (p : ℕ) (l : List Vertex) → insides p l ≤ length l
-unfolding insides
-insides_few p [] = omega arith
-insides_few p (a ∷ l) = omega (arith, one_few (inside p a), insides_few p l)
-
-module _ (p : ℕ) (l : List Vertex) {n : ℕ} (e : n ≡ insides p l) where
+module _ (p : Plane) (l : List Vertex) {n : ℕ} (e : n ≡ insides p l) where
   pub clip_all : n ≡ length l → l ≡ clip_plane p l
   unfolding clip_plane
   clip_all h = rw (eq-eqb (insides p l) (length l) (omega arith))
@@ -148,9 +141,6 @@ module _ (p : ℕ) (l : List Vertex) {n : ℕ} (e : n ≡ insides p l) where
     pub clip_walk : (n ≡ 0 → ⊥) → walked p l ≡ clip_plane p l
     unfolding clip_plane
     clip_walk z = rw (ne_eqb (insides p l) (length l) some_out, ne_eqb (insides p l) 0 (λ q. z (e ∙ q)))
-
-    pub some_corner : (n ≡ 0 → ⊥) → 0 < length l
-    some_corner z = omega (arith, insides_few p l)
 
 -- ---- the planes in turn
 
@@ -171,22 +161,22 @@ caps_below (suc (suc (suc (suc (suc (suc zero)))))) h = omega arith
 caps_below (suc (suc (suc (suc (suc (suc (suc n))))))) h = absurd (omega arith)
 
 -- a plane leads from one cap to the next
-pub caps_next : (p : ℕ) (l : List Vertex) → length l ≤ caps p → length (clip_plane p l) ≤ caps (p + 1)
+pub caps_next : (n : ℕ) (p : Plane) (l : List Vertex) → length l ≤ caps n → length (clip_plane p l) ≤ caps (n + 1)
 unfolding caps
-caps_next p l h = rw add-one (omega (arith, clip_few p l))
+caps_next n p l h = rw add-one (omega (arith, clip_few p l))
 
-module _ (p : ℕ) (l : List Vertex) where
-  pub clip_on : p < 7 → 3 ≤ length (clip_plane p l) → clip_from (p + 1) (7 - (p + 1)) (clip_plane p l) ≡ clip_from p (7 - p) l
-  unfolding clip_from
-  clip_on h k = let one-off : 7 - p ≡ suc (7 - (p + 1)) = omega arith in rw (one-off, le-ltb (length (clip_plane p l)) 3 k, add-one)
+module _ (ps : List Plane) (i : ℕ) (d : Plane) (l : List Vertex) where
+  pub clip_on : i < length ps → 3 ≤ length (clip_plane (get_or ps i d) l) → clip_each (drop (i + 1) ps) (clip_plane (get_or ps i d) l) ≡ clip_each (drop i ps) l
+  unfolding clip_each
+  clip_on h k = rw (drop-cons ps i d h, le-ltb (length (clip_plane (get_or ps i d) l)) 3 k, add-one)
 
-  pub clip_out : p < 7 → length (clip_plane p l) < 3 → clip_from p (7 - p) l ≡ []
-  unfolding clip_from
-  clip_out h k = let one-off : 7 - p ≡ suc (7 - (p + 1)) = omega arith in rw (one-off, lt-ltb (length (clip_plane p l)) 3 k)
+  pub clip_out : i < length ps → length (clip_plane (get_or ps i d) l) < 3 → clip_each (drop i ps) l ≡ []
+  unfolding clip_each
+  clip_out h k = rw (drop-cons ps i d h, lt-ltb (length (clip_plane (get_or ps i d) l)) 3 k)
 
-  pub clip_end : 7 ≤ p → clip_from p (7 - p) l ≡ l
-  unfolding clip_from
-  clip_end h = let none : 7 - p ≡ 0 = omega arith in rw none
+  pub clip_end : length ps ≤ i → clip_each (drop i ps) l ≡ l
+  unfolding clip_each
+  clip_end h = rw (drop_of_length-le ps h)
 
 -- ---- never more than 42
 
@@ -194,22 +184,22 @@ few_or_none : (t : Bool) (y : List Vertex) (m : ℕ) → length y ≤ m → leng
 few_or_none true y m h = omega arith
 few_or_none false y m h = h
 
-from_few : (n p : ℕ) (l : List Vertex) → p + n ≡ 7 → length l ≤ caps p → length (clip_from p n l) ≤ 42
-unfolding clip_from caps
-from_few zero p l e h =
-    let seven : p ≡ 7 = omega arith in
+each_few : (ps : List Plane) (n : ℕ) (l : List Vertex) → n + length ps ≡ 7 → length l ≤ caps n → length (clip_each ps l) ≤ 42
+unfolding clip_each caps
+each_few [] n l e h =
+    let seven : n ≡ 7 = omega arith in
     rw seven at h
-from_few (suc n) p l e h =
+each_few (p ∷ ps) n l e h =
     few_or_none (ltb (length (clip_plane p l)) 3) _ 42
-    (from_few n (suc p) (clip_plane p l) (omega arith) (rw add-one at (caps_next p l h)))
+    (each_few ps (suc n) (clip_plane p l) (omega arith) (rw add-one at (caps_next n p l h)))
 
 pub clipped_few : (l : List Vertex) → length l ≤ 3 → length (clipped l) ≤ 42
 unfolding clipped caps
-clipped_few l h = from_few 7 0 l (omega arith) h
+clipped_few l h = each_few planes 0 l refl h
 
 -- ---- what an edge gives, once its tests are known
 
-module _ (p : ℕ) (a b : Vertex) where
+module _ (p : Plane) (a b : Vertex) where
   pub kept_in : inside p a ≡ true → kept p a ≡ a ∷ []
   unfolding kept
   kept_in e = rw e

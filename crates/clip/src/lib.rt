@@ -2,63 +2,52 @@
 #![tactic(auto)]
 
 ghost use Rattle.std.specs.Prelude.{◌≡◌, ◌+◌, ◌%◌, ◌<◌, ◌≤◌, [], ◌∷◌, ◌++◌, length};
-ghost use Rattle.polygon.specs.Corners.{corners_of};
 ghost use Rattle.clip.specs.Clip.{insides, kept, crossing, walked, clip_plane, clipped, all_inside};
 
-use vertices::Vertex;
+use polygon::Polygon;
+use vertices::{Plane, Vertex};
 
+#[tactic(auto, unfolding(crate::specs::Clip::all_inside))]
 pub fn all_inside(a: Vertex, b: Vertex, c: Vertex) -> bool
     ensures { result ≡ all_inside a b c }
 {
-    if !vertices::inside_frustum(a) {
-        return false;
-    }
-    if !vertices::inside_frustum(b) {
-        return false;
-    }
-    vertices::inside_frustum(c)
+    a.inside_frustum() && b.inside_frustum() && c.inside_frustum()
 }
 
-fn count_inside(polygon: &[f32], len: usize, plane: usize) -> usize
-    requires { (length polygon.now ≡ 714) × (len ≤ 42) }
-    ensures { result ≡ insides plane (corners_of len polygon.now) }
+#[tactic(auto, unfolding(crate::specs::Clip::insides))]
+fn count_inside(polygon: &Polygon, plane: Plane) -> usize
+    ensures { result ≡ insides plane polygon.now }
 {
-    let mut n: usize = 0;
-    for i in 0..len {
-        if vertices::is_inside(polygon::corner(polygon, i), plane) {
-            n += 1;
-        }
-    }
-    n
+    polygon
+        .corners()
+        .iter()
+        .filter(|v| v.is_inside(plane))
+        .count()
 }
 
-// Corner a, if it is inside, as corner n of out.
-fn keep_inside(out: &mut [f32], n: usize, a: Vertex, plane: usize) -> usize
-    requires { (length out.old ≡ 714) × (n + length (kept plane a) ≤ 42) }
-    ensures { corners_of result out.new ≡ corners_of n out.old ++ kept plane a }
+// Corner a, if it is inside.
+#[tactic(auto, unfolding(crate::specs::Clip::kept))]
+fn keep_inside(out: &mut Polygon, a: Vertex, plane: Plane)
+    requires { length out.old + length (kept plane a) ≤ 42 }
+    ensures { out.new ≡ out.old ++ kept plane a }
 {
-    if !vertices::is_inside(a, plane) {
-        return n;
+    if a.is_inside(plane) {
+        out.push(a);
     }
-    polygon::put_corner(out, n, a);
-    n + 1
 }
 
-// Where the edge from a to b crosses the plane, if it does, as corner n of out.
-fn add_crossing(out: &mut [f32], n: usize, a: Vertex, b: Vertex, plane: usize) -> usize
-    requires { (length out.old ≡ 714) × (n + length (crossing plane a b) ≤ 42) }
-    ensures { corners_of result out.new ≡ corners_of n out.old ++ crossing plane a b }
+// Where the edge from a to b crosses the plane, if it does.
+#[tactic(auto, unfolding(crate::specs::Clip::crossing, crate::specs::Clip::cross, vertices::specs::Vertex::inside))]
+fn add_crossing(out: &mut Polygon, a: Vertex, b: Vertex, plane: Plane)
+    requires { length out.old + length (crossing plane a b) ≤ 42 }
+    ensures { out.new ≡ out.old ++ crossing plane a b }
 {
-    let da = vertices::clip_distance(a, plane);
-    let db = vertices::clip_distance(b, plane);
-    let a_inside = da >= 0.0;
-    let b_inside = db >= 0.0;
-    if a_inside == b_inside {
-        return n;
+    let da = a.clip_distance(plane);
+    let db = b.clip_distance(plane);
+    if (da >= 0.0) != (db >= 0.0) {
+        let t = da / (da - db);
+        out.push(a.lerp(&b, t));
     }
-    let t = da / (da - db);
-    polygon::put_corner(out, n, vertices::lerp_vertex(a, b, t));
-    n + 1
 }
 
 // The corner after the last is the first.
@@ -66,66 +55,62 @@ fn next_corner(i: usize, len: usize) -> usize
     requires { i < len }
     ensures { result ≡ (i + 1) % len }
 {
-    let next = i + 1;
-    if next == len {
-        return 0;
-    }
-    next
+    if i + 1 == len { 0 } else { i + 1 }
 }
 
-fn walk_edges(polygon: &[f32], len: usize, plane: usize, out: &mut [f32]) -> usize
-    requires { (length polygon.now ≡ 714) × (length out.old ≡ 714) × (len ≤ 28) }
-    ensures { corners_of result out.new ≡ walked plane (corners_of len polygon.now) }
+fn walk_edges(polygon: &Polygon, plane: Plane, out: &mut Polygon)
+    requires { length polygon.now ≤ 28 }
+    ensures { out.new ≡ walked plane polygon.now }
 {
-    let mut n: usize = 0;
-    for i in 0..len {
-        let a = polygon::corner(polygon, i);
-        let b = polygon::corner(polygon, next_corner(i, len));
-        n = keep_inside(out, n, a, plane);
-        n = add_crossing(out, n, a, b, plane);
+    out.clear();
+    let corners = polygon.corners();
+    for i in 0..corners.len() {
+        let a = corners[i];
+        let b = corners[next_corner(i, corners.len())];
+        keep_inside(out, a, plane);
+        add_crossing(out, a, b, plane);
     }
-    n
 }
 
-fn clip_plane(polygon: &mut [f32], scratch: &mut [f32], len: usize, plane: usize) -> usize
-    requires { (length polygon.old ≡ 714) × (length scratch.old ≡ 714) × (len ≤ 28) }
-    ensures { corners_of result polygon.new ≡ clip_plane plane (corners_of len polygon.old) }
+fn clip_plane(polygon: &mut Polygon, scratch: &mut Polygon, plane: Plane)
+    requires { length polygon.old ≤ 28 }
+    ensures { polygon.new ≡ clip_plane plane polygon.old }
 {
-    let inside = count_inside(polygon, len, plane);
-    if inside == len {
-        return len;
+    let inside = count_inside(polygon, plane);
+    if inside == polygon.corners().len() {
+        return;
     }
     if inside == 0 {
-        return 0;
+        polygon.clear();
+        return;
     }
-    let n = walk_edges(polygon, len, plane, scratch);
-    polygon::copy_corners(scratch, polygon, n);
-    n
+    walk_edges(polygon, plane, scratch);
+    polygon.copy_from(scratch);
 }
 
-// The corners that the seven planes leave in polygon; none where the Rust answers false.
-fn clip_frustum(polygon: &mut [f32], scratch: &mut [f32], len: usize) -> usize
-    requires { (length polygon.old ≡ 714) × (length scratch.old ≡ 714) × (len ≤ 3) }
-    ensures { corners_of result polygon.new ≡ clipped (corners_of len polygon.old) }
+// The corners that the seven planes leave; none where the Rust answers false.
+fn clip_frustum(polygon: &mut Polygon, scratch: &mut Polygon)
+    requires { length polygon.old ≤ 3 }
+    ensures { polygon.new ≡ clipped polygon.old }
 {
-    let mut left = len;
-    for plane in 0..7 {
-        left = clip_plane(polygon, scratch, left, plane);
-        if left < 3 {
-            return 0;
+    for plane in Plane::ALL {
+        clip_plane(polygon, scratch, plane);
+        if polygon.corners().len() < 3 {
+            polygon.clear();
+            return;
         }
     }
-    left
 }
 
 // What clipping leaves of one triangle.
-pub fn clip_triangle(polygon: &mut [f32], a: Vertex, b: Vertex, c: Vertex) -> usize
-    requires { length polygon.old ≡ 714 }
-    ensures { corners_of result polygon.new ≡ clipped (a ∷ b ∷ c ∷ []) }
+pub fn clip_triangle(a: Vertex, b: Vertex, c: Vertex) -> Polygon
+    ensures { result ≡ clipped (a ∷ b ∷ c ∷ []) }
 {
-    let mut scratch = [0.0f32; 714];
-    polygon::put_corner(polygon, 0, a);
-    polygon::put_corner(polygon, 1, b);
-    polygon::put_corner(polygon, 2, c);
-    clip_frustum(polygon, &mut scratch, 3)
+    let mut polygon = Polygon::new();
+    let mut scratch = Polygon::new();
+    polygon.push(a);
+    polygon.push(b);
+    polygon.push(c);
+    clip_frustum(&mut polygon, &mut scratch);
+    polygon
 }

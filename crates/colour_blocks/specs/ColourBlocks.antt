@@ -1,7 +1,7 @@
 -- The colours of a block of four by four texels, in the eight bytes of s from `at` on, row by row; and DXT1's alphas, which stand among them.
-use Rattle.std.specs.Prelude.{Bool, true, cond, List, [], ◌∷◌, ℕ, ◌+◌, ◌-◌, ◌*◌, ◌/◌, eqb, ltb, get_or}
+use Rattle.std.specs.Prelude.{Bool, true, cond, List, [], ◌∷◌, ℕ, ◌+◌, ◌-◌, ◌/◌, eqb, ltb, get_or}
 use Rattle.lists.specs.Lists.{tab}
-use Rattle.texels.specs.Texels.{expand5, expand6, half}
+use Rattle.texels.specs.Texels.{expand5, rgb565, half}
 use Rattle.alpha_blocks.specs.AlphaBlocks.{mixed, selector, word}
 
 -- a mixture for each of three channels
@@ -11,10 +11,6 @@ mixed3 k n a b =
     ∷ mixed k n (get_or a 1 0) (get_or b 1 0)
     ∷ mixed k n (get_or a 2 0) (get_or b 2 0)
     ∷ []
-
--- EXT_texture_compression_s3tc: an endpoint is a 5-6-5 colour
-abbrev pub rgb565 : ℕ → List ℕ
-rgb565 c = expand5 (c / 2048) ∷ expand6 (c / 32) ∷ expand5 c ∷ []
 
 -- texture.rs, atc_rgb_block: the first endpoint is 5-5-5, its top bit the mode
 abbrev pub rgb555 : ℕ → List ℕ

@@ -13,6 +13,7 @@ use Rattle.answers.specs.declared.Refusal.TheVariants.{Output}
 use Rattle.answers.specs.Numbers.{refusal_number}
 use Rattle.answers.proofs.Answered.{refused_test, done_test}
 use Rattle.texels.specs.Image.{side_above}
+use Rattle.std.specs.Prelude.{Option}
 use Rattle.compressed.specs.declared.Compressed.{Compressed}
 use Rattle.compressed.specs.Compressed.{is_unknown, size_of, size_check, size_answered, compressed_image, zero_side, known_check, known_left, empty_check, compressed_check, compressed_left}
 
@@ -26,7 +27,7 @@ module _ (w h : ℕ) where
   pub no_zero : (w ≡ 0 → ⊥) → (h ≡ 0 → ⊥) → zero_side w h ≡ false
   no_zero p q = sym (no _ (ne_eqb w 0 p) (sym (ne_eqb h 0 q)))
 
-module _ (f : Compressed) (w h : ℕ) where
+module _ (f : Option Compressed) (w h : ℕ) where
   pub size_9 : side_above w h ≡ true → 9 ≡ size_check f w h
   unfolding size_check
   size_9 p = yes _ p refl

@@ -2,10 +2,12 @@
 use Prim.Native.Nat.{ℕ, zero, suc, ◌+◌, ◌-◌, ◌*◌, ◌/◌, ◌^◌, ◌≤◌, ◌<◌, min}
 use mathlib.Core.Path.{◌≡◌, refl, sym, ap, subst, ◌∙◌}
 use mathlib.Core.Bool.{Bool, true, false, ◌&&◌}
-use lib.Dec.{T, lit≤, eqb}
-use lib.IntN.{ℤ, pos, negsuc, neg_ℤ}
+use lib.Dec.{T, eqb}
+use lib.IntN.{ℤ, pos, negsuc, neg_ℤ, ◌+ℤ◌, ◌-ℤ◌}
+use mir.Syntax.{w64}
+use mir.Val.{SFits, to_z, of_z}
+use Rattle.std.proofs.lemmas.Int.{ints, to_z-of_z}
 use lib.Ieee.{Float, nan, inf, fin, up, down, lt, eq, neg, add, sub, round, of_bits, of_int, in_float, to_unsigned, to_signed, binary32}
-use lib.Ieee.Casts.{to_unsigned-lt}
 use lib.Ieee.Fits.{down_pos}
 use lib.Ieee.Exact.{HasValue}
 use lib.Ieee.Back.{round_whole}
@@ -15,26 +17,25 @@ use native.Mathlib.Omega.{arith}
 use borrow.Author.Tests.{ltb-true, eqb-true, eqb-false, le-leb, lt-ltb}
 use Rattle.lists.proofs.Choice.{true_false}
 use Rattle.floats.proofs.Cut.{two_to}
-use Rattle.rounding.specs.Rounding.{up_div, whole_by, floor_of}
+use Rattle.levels.specs.declared.Wrap.{Wrap}
+use Rattle.std.specs.Int.{saturate_signed}
+use Rattle.rounding.specs.Rounding.{up_div, whole_by, floor_of, next_of, Part}
+use Rattle.rounding.proofs.Next.{next_is}
 use Rattle.rounding.proofs.Near.{big, less, Summed, summed, summed_to}
 use Rattle.rounding.proofs.Kept.{up_is, up_exact, neg_round}
-use Rattle.coords.specs.Coords.{Few, Floored}
-use Rattle.channels.proofs.LastBits.{Ends, Fast, fast}
-
-ends : Ends 22
-ends = record { few = lit≤ tt; same_end = λ q n u a b d. omega arith; next_end = λ q n u a b d. omega arith }
+use Rattle.coords.specs.Coords.{Few, Floored, wrap_texel, axis_at}
 
 under : (m : ℕ) (e : ℤ) → lt (fin false m e) (two_to 22) ≡ true → m * up e < 2 ^ 22 * down e
 unfolding lt
 under m e h = omega (arith, ltb-true (m * up e * 1) (1 * 2 ^ 22 * down e) h)
 
-pub quick : (x : Float) → Few x → Fast 22 x
+pub few_part : (x : Float) → Few x → Part 22 x
 unfolding lt of_bits
-quick nan f = absurd (true_false (sym f.above))
-quick (inf true) f = absurd (true_false (sym f.above))
-quick (inf false) f = absurd (true_false (sym f.below))
-quick (fin true m e) f = absurd (true_false (sym f.above))
-quick (fin false m e) f = fast 22 ends m e (under m e f.below)
+few_part nan f = absurd (true_false (sym f.above))
+few_part (inf true) f = absurd (true_false (sym f.above))
+few_part (inf false) f = absurd (true_false (sym f.below))
+few_part (fin true m e) f = absurd (true_false (sym f.above))
+few_part (fin false m e) f = under m e f.below
 
 -- ---- a whole float as an i64
 signed_above : (v : Float) (q : ℕ) → HasValue v false q 1 → q < 2 ^ 24 → pos q ≡ to_signed 63 v
@@ -214,9 +215,6 @@ below_whole (fin false m d) n f e t =
 pub floored_below : (x y : Float) (r : ℕ) → y ≡ neg x → Floored (neg y) (negsuc r) (neg (of_int binary32 (pos (r + 1)))) → Floored x (negsuc r) (neg (of_int binary32 (pos (r + 1))))
 floored_below x y r e f = subst (λ (z : Float). Floored z (negsuc r) (neg (of_int binary32 (pos (r + 1))))) (ap neg e ∙ neg_neg x) f
 
-pub part_few : (x : Float) → to_unsigned 22 x < 2 ^ 22
-part_few x = to_unsigned-lt 22 x
-
 pub small_float : (n : ℕ) → n ≤ 2 ^ 22 → T (in_float binary32 (pos n))
 unfolding in_float
 small_float n h = subst T (sym (le-leb n (2 ^ 24) (omega arith))) tt
@@ -229,3 +227,25 @@ minus_above (inf true) h = refl
 minus_above (inf false) h = absurd (true_false (sym h))
 minus_above (fin false m e) h = absurd (omega (arith, ltb-true (m * up e * 1) (0 * 1 * down e) h))
 minus_above (fin true m e) h = lt-ltb (0 * 1 * down e) (m * up e * 1) (omega (arith, ltb-true 0 (m * up e * 1 + 0 * 1 * down e) h))
+
+-- ---- a floor's whole number as the code has it: what fits an i64 stays
+module _ (x v : Float) (r : ℤ) (f : SFits w64 r) where
+  pub held_whole : (z : ℤ) → r ≡ z → Floored x z v → Floored x (to_z w64 (of_z w64 r)) v
+  held_whole z e h = subst (λ (y : ℤ). Floored x y v) (sym (to_z-of_z w64 r f ∙ e)) h
+
+  pub held_below : (n : ℕ) → n < 2 ^ 22 → r ≡ pos n → Floored x (negsuc n) v → Floored x (to_z w64 (of_z w64 (negsuc 0 -ℤ to_z w64 (of_z w64 r)))) v
+  held_below n l e h =
+      let d : negsuc 0 -ℤ pos n ≡ negsuc n = omega (arith, ints) in
+      let k : to_z w64 (of_z w64 (negsuc 0 -ℤ to_z w64 (of_z w64 r))) ≡ negsuc n =
+      ap (λ (y : ℤ). to_z w64 (of_z w64 y)) (ap (λ (y : ℤ). negsuc 0 -ℤ y) (to_z-of_z w64 r f ∙ e) ∙ d) ∙ to_z-of_z w64 (negsuc n) (record { sfits = omega arith }) in
+      subst (λ (y : ℤ). Floored x y v) (sym k) h
+
+-- the axis from the floor's whole number and one more
+pub far : (w : Wrap) (x : Float) (size : ℕ) (z n : ℤ) (low : Float) (a b : ℕ) → Floored x z low → SFits w64 z → SFits w64 n → a ≡ wrap_texel w (to_z w64 (of_z w64 z)) size
+    → n ≡ saturate_signed w64 (to_z w64 (of_z w64 z) +ℤ pos 1) → b ≡ wrap_texel w (to_z w64 (of_z w64 n)) size → record { first = a; second = b; weight = sub binary32 x low } ≡ axis_at w x size
+unfolding axis_at
+far w x size z n low a b h f g p q r =
+    let i : to_z w64 (of_z w64 z) ≡ to_signed 63 (floor_of x) = to_z-of_z w64 z f ∙ h.whole in
+    let j : to_z w64 (of_z w64 n) ≡ next_of 63 (to_signed 63 (floor_of x)) =
+    to_z-of_z w64 n g ∙ q ∙ ap (λ (y : ℤ). saturate_signed w64 (y +ℤ pos 1)) (to_z-of_z w64 z f) ∙ next_is w64 z f ∙ ap (next_of 63) h.whole in
+    rw (p ∙ ap (λ (y : ℤ). wrap_texel w y size) i, r ∙ ap (λ (y : ℤ). wrap_texel w y size) j, h.low)

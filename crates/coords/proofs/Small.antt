@@ -13,7 +13,7 @@ use Rattle.lists.proofs.Choice.{was_true, true_false}
 use Rattle.floats.specs.Num.{zero32, of_nat32}
 use Rattle.floats.proofs.Signs.{pattern_number}
 use Rattle.rounding.proofs.Near.{big, less}
-use Rattle.channels.proofs.LastBits.{bits}
+use Rattle.rounding.proofs.LastBits.{bits}
 use Rattle.coords.specs.Coords.{Few, small_of}
 use Rattle.coords.proofs.Quick.{minus_above}
 

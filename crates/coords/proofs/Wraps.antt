@@ -1,30 +1,39 @@
 -- A whole number n or -1 - n brought into a side, as the code does it, and what a remainder is. Assumes nothing.
-use Prim.Native.Nat.{ℕ, suc, ◌+◌, ◌-◌, ◌*◌, ◌/◌, ◌%◌, ◌<◌, min}
-use mathlib.Core.Path.{◌≡◌, sym, subst}
-use mathlib.Core.Bool.{Bool, true, false, cond}
-use lib.IntN.{ℤ, pos, negsuc}
-use native.Mathlib.Nat.{mod-lt, div-add-mod', suc-mul}
-use native.Mathlib.Omega.{arith}
+use Rattle.std.proofs.Common.{◌≡◌, ℕ, suc, ◌+◌, ◌-◌, ◌*◌, ◌/◌, ◌%◌, ◌^◌, ◌<◌, ℤ, pos, negsuc, ◌-ℤ◌, w64, refl, sym, ap, ap₂, ◌∙◌, subst, mod-lt, div-add-mod', suc-mul, arith, to_z, of_z}
+use Rattle.std.proofs.lemmas.Int.{ints, clamps, to_z-of_z}
+use Rattle.std.specs.Int.{int_max, int_min, int_rem_euclid}
+use lib.IntN.{nat_abs}
+use mir.Val.{SFits}
 use Rattle.levels.specs.declared.Wrap.{Wrap}
 use Rattle.levels.specs.declared.Wrap.TheVariants.{Repeat, ClampToEdge}
 use Rattle.coords.specs.Coords.{rem_of, edge_of, wrap_texel}
 
-module _ (b : Bool) (n size : ℕ) where
-  pub rem_negative : b ≡ true → size - 1 - n % size ≡ rem_of (cond b (negsuc n) (pos n)) size
-  unfolding rem_of
-  rem_negative h = rw h
+-- ---- what std's methods give
+rem_is : (z : ℤ) (size : ℕ) → nat_abs (int_rem_euclid z (pos size)) ≡ rem_of z size
+unfolding rem_of
+rem_is (pos n) size = refl
+rem_is (negsuc n) size = refl
 
-  pub rem_positive : b ≡ false → n % size ≡ rem_of (cond b (negsuc n) (pos n)) size
-  unfolding rem_of
-  rem_positive h = rw h
+clamp_is : (z : ℤ) (size : ℕ) → nat_abs (int_max (pos 0) (int_min z (pos (size - 1)))) ≡ edge_of z size
+unfolding edge_of
+clamp_is (pos n) size = omega (arith, ints, clamps)
+clamp_is (negsuc n) size = omega (arith, ints, clamps)
 
-  pub edge_negative : b ≡ true → 0 ≡ edge_of (cond b (negsuc n) (pos n)) size
-  unfolding edge_of
-  edge_negative h = rw h
+less_one : (size : ℕ) → 0 < size → pos size -ℤ pos 1 ≡ pos (size - 1)
+less_one size h = omega (arith, ints)
 
-  pub edge_positive : (k : ℕ) → k ≡ min n (size - 1) → b ≡ false → k ≡ edge_of (cond b (negsuc n) (pos n)) size
-  unfolding edge_of
-  edge_positive k e h = rw h e
+module _ (w : Wrap) (z s r : ℤ) (size : ℕ) (f : SFits w64 z) (g : SFits w64 s) (h : SFits w64 r) (e : s ≡ pos size) where
+  pub repeated : w ≡ Repeat → r ≡ int_rem_euclid (to_z w64 (of_z w64 z)) (to_z w64 (of_z w64 s)) → nat_abs (to_z w64 (of_z w64 r)) ≡ wrap_texel w z size
+  unfolding wrap_texel
+  repeated i j =
+      ap nat_abs (to_z-of_z w64 r h ∙ j ∙ ap₂ int_rem_euclid (to_z-of_z w64 z f) (to_z-of_z w64 s g ∙ e)) ∙ rem_is z size ∙ rw i
+
+  pub clamped : 0 < size → size < 2 ^ 32 → w ≡ ClampToEdge → r ≡ int_max (pos 0) (int_min (to_z w64 (of_z w64 z)) (to_z w64 (of_z w64 (to_z w64 (of_z w64 s) -ℤ pos 1)))) → nat_abs (to_z w64 (of_z w64 r)) ≡ wrap_texel w z size
+  unfolding wrap_texel
+  clamped some few i j =
+      let top : to_z w64 (of_z w64 (to_z w64 (of_z w64 s) -ℤ pos 1)) ≡ pos (size - 1) =
+      ap (λ (y : ℤ). to_z w64 (of_z w64 y)) (ap (λ (y : ℤ). y -ℤ pos 1) (to_z-of_z w64 s g ∙ e) ∙ less_one size some) ∙ to_z-of_z w64 (pos (size - 1)) (record { sfits = omega arith }) in
+      ap nat_abs (to_z-of_z w64 r h ∙ j ∙ ap₂ (λ (a b : ℤ). int_max (pos 0) (int_min a b)) (to_z-of_z w64 z f) top) ∙ clamp_is z size ∙ rw i
 
 -- ---- for a reader: `rem_of` is the Euclidean remainder. It is below the side, and -1 - n and it differ by a multiple of the side.
 pub rem_below : (z : ℤ) (size : ℕ) → 0 < size → rem_of z size < size

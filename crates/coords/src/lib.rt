@@ -4,11 +4,10 @@
 ghost use Rattle.std.specs.Prelude.{◌≡◌, true, ◌+◌, ◌≤◌, ◌<◌, pos, negsuc};
 ghost use Rattle.std.specs.Float.Ieee as Ieee;
 ghost use Rattle.floats.specs.Num.{of_nat32};
-ghost use Rattle.rounding.specs.Rounding.{floor_of, number_of, next_of};
-ghost use Rattle.coords.specs.Coords.{Few, Floored, small_of, rem_of, edge_of, wrap_texel, edge_coord, wrap_coord, centred, axis_at, axis_of};
+ghost use Rattle.rounding.specs.Rounding.{floor_of, next_of};
+ghost use Rattle.coords.specs.Coords.{Few, Floored, small_of, rem_of, wrap_texel, edge_coord, wrap_coord, centred, axis_at, axis_of};
 
 use levels::Wrap;
-use rounding::Whole;
 
 // The two texels of a linear sample on one axis, and the weight of the second.
 #[derive(Clone, Copy)]
@@ -28,18 +27,8 @@ pub struct Axes {
 // The floor of a float: as a whole number, and as a float.
 #[derive(Clone, Copy)]
 struct Floor {
-    whole: Whole,
+    whole: i64,
     low: f32,
-}
-
-// The whole part, by the last bits of a sum with 2^23.
-fn whole_part(x: f32) -> u32
-    requires { Few x }
-    ensures { (result ≡ Ieee.to_unsigned 22 x) × (result < 4194304) }
-{
-    let r = x + 8388608.0;
-    let up = if r - 8388608.0 > x { 4194303u32 } else { 0u32 };
-    (f32::to_bits(r) % 4194304 + up) % 4194304
 }
 
 // n of the floor -1 - n of -y.
@@ -47,7 +36,7 @@ fn below_part(y: f32) -> u32
     requires { Few y }
     ensures { (result < 4194304) × Floored (Ieee.neg y) (negsuc result) (Ieee.neg (of_nat32 (result + 1))) }
 {
-    let n = whole_part(y);
+    let n = rounding::whole_part::<22>(y);
     if y == (y + 8388608.0) - 8388608.0 {
         return n - 1;
     }
@@ -55,16 +44,13 @@ fn below_part(y: f32) -> u32
 }
 
 fn floored(x: f32) -> Floor
-    ensures { Floored x (number_of result.whole) result.low }
+    ensures { Floored x result.whole result.low }
 {
     if x > 0.0 {
         if x < 4194304.0 {
-            let n = whole_part(x);
+            let n = rounding::whole_part::<22>(x);
             return Floor {
-                whole: Whole {
-                    below: false,
-                    n: n as u64,
-                },
+                whole: i64::from(n),
                 low: n as f32,
             };
         }
@@ -74,55 +60,26 @@ fn floored(x: f32) -> Floor
         if y < 4194304.0 {
             let n = below_part(y);
             return Floor {
-                whole: Whole {
-                    below: true,
-                    n: n as u64,
-                },
+                whole: -1 - i64::from(n),
                 low: -((n + 1) as f32),
             };
         }
     }
     let low = rounding::floor(x);
     Floor {
-        whole: rounding::saturating_i64(low),
+        whole: std::num::saturating_f32_to_i64(low),
         low,
     }
 }
 
-// v.rem_euclid(size)
-fn rem_euclid(v: Whole, size: u32) -> u32
+fn wrap_texel(v: i64, size: u32, wrap: Wrap) -> u32
     requires { 0 < size }
-    ensures { result ≡ rem_of (number_of v) size }
+    ensures { result ≡ wrap_texel wrap v size }
 {
-    let side = size as u64;
-    let m = v.n % side;
-    if v.below {
-        return (side - 1 - m) as u32;
-    }
-    m as u32
-}
-
-// v.clamp(0, size - 1)
-fn clamp_index(v: Whole, size: u32) -> u32
-    requires { 0 < size }
-    ensures { result ≡ edge_of (number_of v) size }
-{
-    if v.below {
-        return 0;
-    }
-    if v.n < size as u64 {
-        return v.n as u32;
-    }
-    size - 1
-}
-
-fn wrap_texel(v: Whole, size: u32, wrap: Wrap) -> u32
-    requires { 0 < size }
-    ensures { result ≡ wrap_texel wrap (number_of v) size }
-{
+    let side = i64::from(size);
     match wrap {
-        Wrap::Repeat => rem_euclid(v, size),
-        Wrap::ClampToEdge => clamp_index(v, size),
+        Wrap::Repeat => v.rem_euclid(side) as u32,
+        Wrap::ClampToEdge => v.clamp(0, side - 1) as u32,
     }
 }
 
@@ -136,7 +93,7 @@ fn edge_coord(c: f32, size: u32) -> u32
     if c >= size as f32 {
         return size - 1;
     }
-    floats::saturating_u32(c)
+    std::num::saturating_f32_to_u32(c)
 }
 
 // A side as a float, by its bits: a conversion would wait for whatever its register held before.
@@ -154,7 +111,7 @@ fn repeat_coord(x: f32, size: u32) -> u32
 {
     if x > 0.0 {
         if x < 4194304.0 {
-            return whole_part(x) % size;
+            return rounding::whole_part::<22>(x) % size;
         }
     }
     if x < 0.0 {
@@ -163,7 +120,7 @@ fn repeat_coord(x: f32, size: u32) -> u32
             return size - 1 - below_part(y) % size;
         }
     }
-    rem_euclid(floored(x).whole, size)
+    wrap_texel(floored(x).whole, size, Wrap::Repeat)
 }
 
 pub fn wrap_coord(v: f32, size: u32, wrap: Wrap) -> u32
@@ -237,7 +194,7 @@ fn above_axis(x: f32, size: u32, wrap: Wrap) -> Axis
     requires { (0 < size) × (size ≤ 1024) × Few x }
     ensures { result ≡ axis_at wrap x size }
 {
-    let n = whole_part(x);
+    let n = rounding::whole_part::<22>(x);
     let first = above_texel(n, size, wrap);
     Axis {
         first,
@@ -289,7 +246,7 @@ fn far_axis(x: f32, size: u32, wrap: Wrap) -> Axis
     let f = floored(x);
     Axis {
         first: wrap_texel(f.whole, size, wrap),
-        second: wrap_texel(rounding::next_i64(f.whole), size, wrap),
+        second: wrap_texel(f.whole.saturating_add(1), size, wrap),
         weight: x - f.low,
     }
 }

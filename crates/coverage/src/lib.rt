@@ -28,6 +28,7 @@ fn centre(n: u32) -> f32
     n as f32 + 0.5
 }
 
+#[tactic(auto, unfolding(crate::specs::Coverage::edge_of))]
 fn edge(p: ScreenVertex, q: ScreenVertex, sx: f32, sy: f32, inv_area: f32) -> f32
     ensures { result ≡ edge_of p q sx sy inv_area }
 {
@@ -66,6 +67,7 @@ pub fn is_covered(w: PerCorner) -> bool
     true
 }
 
+#[tactic(auto, unfolding(crate::specs::Coverage::depth_at))]
 pub fn depth_at(t: Raster, w: PerCorner) -> f32
     ensures { result ≡ depth_at t w }
 {
@@ -79,6 +81,7 @@ pub fn depth_at(t: Raster, w: PerCorner) -> f32
     )
 }
 
+#[tactic(auto, unfolding(crate::specs::Coverage::inv_w_at))]
 pub fn inv_w_at(t: Raster, w: PerCorner) -> f32
     ensures { result ≡ inv_w_at t w }
 {
@@ -108,6 +111,7 @@ pub fn is_usable(iw: f32) -> bool
 }
 
 // The weights with perspective; rec is 1 over the interpolated 1/w.
+#[tactic(auto, unfolding(crate::specs::Coverage::shares_of))]
 pub fn shares_of(t: Raster, w: PerCorner, rec: f32) -> PerCorner
     ensures { result ≡ shares_of t w rec }
 {

@@ -2,22 +2,17 @@
 use Rattle.std.proofs.Common.{◌≡◌, Bool, true, false, cond, T, sym, refl, subst}
 use lib.Ieee.{Float, nan, inf, fin, is_nan, eq, ne, lt, add, mul, binary64}
 use lib.Ieee.Compare.{differs_from_itself}
+use Rattle.std.specs.Float.{float_is_infinite}
 use Rattle.floats.specs.Num.{max_of}
 use Rattle.lists.proofs.Choice.{yes, no, true_false}
 use Rattle.detail.specs.Pairs.{infinite, pair_of}
 
-pub is_plus : (x : Float) → eq x (inf false) ≡ true → true ≡ infinite x
-unfolding eq infinite
-is_plus nan h = absurd (true_false (sym h))
-is_plus (inf s) h = refl
-is_plus (fin s m e) h = absurd (true_false (sym h))
-
-pub is_minus : (x : Float) → eq x (inf false) ≡ false → eq x (inf true) ≡ infinite x
-unfolding eq infinite
-is_minus nan h = refl
-is_minus (inf false) h = absurd (true_false h)
-is_minus (inf true) h = refl
-is_minus (fin s m e) h = refl
+-- std's word for an infinite float is ours
+pub infinite_is : (x : Float) → float_is_infinite x ≡ infinite x
+unfolding float_is_infinite infinite
+infinite_is nan = refl
+infinite_is (inf s) = refl
+infinite_is (fin s m e) = refl
 
 add_nan : (x : Float) → add binary64 x nan ≡ nan
 unfolding add

@@ -6,33 +6,26 @@ ghost use Rattle.std.specs.Float.Ieee as Ieee;
 ghost use Rattle.std.specs.Float.{fin, inf};
 ghost use Rattle.std.specs.Float.Ieee.Positive.{num, den, positive};
 ghost use Rattle.floats.specs.Num.{max_of};
-ghost use Rattle.detail.specs.Pairs.{infinite, pair_of, q_of};
+ghost use Rattle.detail.specs.Pairs.{pair_of, q_of};
 ghost use Rattle.detail.specs.Steps.{Thresholds, Largest, Reached, steps_of, cut_of};
-
-fn is_infinite(x: f32) -> bool
-    ensures { result ≡ infinite x }
-{
-    if x == 1.0 / 0.0 {
-        return true;
-    }
-    x == -1.0 / 0.0
-}
 
 // The squares of a pair of products, added in f64.
 fn pair(a: f32, b: f32) -> f64
     ensures { result ≡ pair_of a b }
 {
-    if is_infinite(a) {
-        return 1.0 / 0.0;
+    if a.is_infinite() {
+        return f64::INFINITY;
     }
-    if is_infinite(b) {
-        return 1.0 / 0.0;
+    if b.is_infinite() {
+        return f64::INFINITY;
     }
     let x = std::num::f32_to_f64_with_nan(a);
     let y = std::num::f32_to_f64_with_nan(b);
     x * x + y * y
 }
 
+// Kept: std's f64::max promises either of two equal numbers, so either zero, and max_of is the first; one function for this and
+// floats::max would need a trait over f32 and f64 with its two impls, which is longer than both.
 fn larger(a: f64, b: f64) -> f64
     ensures { result ≡ max_of a b }
 {
@@ -183,13 +176,6 @@ const THRESHOLDS: [f64; 128] = [
     1.9891988469672666,
 ];
 
-// The table, for a draw to make once and lend.
-pub fn thresholds() -> [f64; 128]
-    ensures { Thresholds result }
-{
-    THRESHOLDS
-}
-
 // A place in the table from the first twelve digits of a significand: at most the right one, and at most two below it.
 fn guess(k: u64) -> usize
     requires { k < 4096 }
@@ -202,67 +188,73 @@ fn guess(k: u64) -> usize
     ((a - 2800) / 4096 % 128) as usize
 }
 
-// Where to begin: the guess, if m reaches its threshold.
-fn start(t: &[f64; 128], m: f64, k: u64) -> usize
-    requires thresholds { Thresholds t.now }
-    requires positive { T (positive m) }
-    requires at_least_one { den m ≤ num m }
-    requires exponent { k < 4096 }
-    ensures { (result < 128) × Reached m result }
-{
-    let i = guess(k);
-    if m < t[i] {
-        return 0;
-    }
-    i
+// The thresholds, for a draw to make once and lend.
+#[derive(Clone, Copy)]
+pub struct LevelTable {
+    thresholds: [f64; 128],
+    ghost are_thresholds: { Thresholds thresholds },
 }
 
-// The largest i with 2^i <= m^128, for a significand m of 1 to 2.
-fn step_of(t: &[f64; 128], m: f64, k: u64) -> usize
-    requires thresholds { Thresholds t.now }
-    requires positive { T (positive m) }
-    requires at_least_one { den m ≤ num m }
-    requires below_two { num m < 2 * den m }
-    requires exponent { k < 4096 }
-    ensures { (result < 128) × Largest m result }
-{
-    let mut i = start(t, m, k);
-    while i < 127 {
-        if m < t[i + 1] {
-            return i;
-        }
-        i = i + 1;
-    }
-    127
-}
-
-// The largest whole number n with 2^n <= q^128.
-pub fn steps(t: &[f64; 128], q: f64) -> u64
-    requires thresholds { Thresholds t.now }
-    requires above_one { T (Ieee.lt (fin false 1 (pos 0)) q) }
-    requires finite { T (Ieee.lt q (inf false)) }
-    ensures { result ≡ steps_of q }
-{
-    let bits = f64::to_bits(q);
-    let exponent = bits / 4503599627370496 - 1023;
-    let digits = bits % 4503599627370496;
-    let m = f64::from_bits(digits + 4607182418800017408);
-    exponent * 128 + step_of(t, m, digits / 1099511627776) as u64
-}
-
-// n for a q above 1, cut to 256 times the top level.
-pub fn cut_steps(t: &[f64; 128], q: f64, top: u64) -> u64
-    requires thresholds { Thresholds t.now }
-    requires above_one { T (Ieee.lt (fin false 1 (pos 0)) q) }
-    requires top_in { top ≤ 10 }
-    ensures { result ≡ cut_of q top }
-{
-    let most = 256 * top;
-    if q < 1.0 / 0.0 {
-        let n = steps(t, q);
-        if n < most {
-            return n;
+impl LevelTable {
+    pub fn new() -> Self {
+        LevelTable {
+            thresholds: THRESHOLDS,
         }
     }
-    most
+
+    // Where to begin: the guess, if m reaches its threshold.
+    fn start(&self, m: f64, k: u64) -> usize
+        requires positive { T (positive m) }
+        requires at_least_one { den m ≤ num m }
+        requires exponent { k < 4096 }
+        ensures { (result < 128) × Reached m result }
+    {
+        let i = guess(k);
+        if m < self.thresholds[i] {
+            return 0;
+        }
+        i
+    }
+
+    // The largest i with 2^i <= m^128, for a significand m of 1 to 2.
+    fn step_of(&self, m: f64, k: u64) -> usize
+        requires positive { T (positive m) }
+        requires at_least_one { den m ≤ num m }
+        requires below_two { num m < 2 * den m }
+        requires exponent { k < 4096 }
+        ensures { (result < 128) × Largest m result }
+    {
+        for i in self.start(m, k)..127 {
+            if m < self.thresholds[i + 1] {
+                return i;
+            }
+        }
+        127
+    }
+
+    // The largest whole number n with 2^n <= q^128.
+    pub fn steps(&self, q: f64) -> u64
+        requires above_one { T (Ieee.lt (fin false 1 (pos 0)) q) }
+        requires finite { T (Ieee.lt q (inf false)) }
+        ensures { result ≡ steps_of q }
+    {
+        let bits = f64::to_bits(q);
+        let exponent = bits / 4503599627370496 - 1023;
+        let digits = bits % 4503599627370496;
+        let m = f64::from_bits(digits + 4607182418800017408);
+        exponent * 128 + self.step_of(m, digits / 1099511627776) as u64
+    }
+
+    // n for a q above 1, cut to 256 times the top level.
+    pub fn cut_steps(&self, q: f64, top: u64) -> u64
+        requires above_one { T (Ieee.lt (fin false 1 (pos 0)) q) }
+        requires top_in { top ≤ 10 }
+        ensures { result ≡ cut_of q top }
+    {
+        let most = 256 * top;
+        if q < f64::INFINITY {
+            return self.steps(q).min(most);
+        }
+        most
+    }
 }

@@ -1,4 +1,5 @@
 -- Which way a draw takes. Assumes nothing.
+use Rattle.std.specs.Prelude.{Some, None}
 use mathlib.Core.Path.{◌≡◌, refl, ◌∙◌}
 use mathlib.Core.Bool.{Bool, true, false, cond}
 use mathlib.Core.List.{List}
@@ -9,12 +10,12 @@ use lib.Ieee.{Float}
 use borrow.Author.Tests.{eqb-true}
 use Rattle.lists.proofs.Choice.{no}
 use Rattle.answers.specs.declared.Refusal.{Refusal}
+use Rattle.scissor.specs.declared.PixelBox.{PixelBox}
 use Rattle.answers.specs.Numbers.{refusal_number}
 use Rattle.answers.proofs.Answered.{refused_test}
 use Rattle.levels.specs.declared.Texture.{Texture}
 use Rattle.settings.specs.declared.TextureStage.{TextureStage}
 use Rattle.settings.specs.declared.PipelineState.{PipelineState}
-use Rattle.scissor.specs.declared.Bounds.TheVariants.{Empty, Box}
 use Rattle.scissor.specs.Scissor.{bounds_of}
 use Rattle.vertices.specs.declared.Vertex.{Vertex}
 use Rattle.screen.specs.Screen.{viewport_draws, view_of}
@@ -40,12 +41,12 @@ module _ (store : List ℕ) (d : Drawing) (width height : ℕ) (a b c : Vertex) 
   unfolding drawn_of
   no_viewport e = rw e
 
-  pub no_pixels : viewport_draws d.state.viewport ≡ true → bounds_of width height d.state.scissor ≡ Empty → s ≡ drawn_of store d width height a b c s
+  pub no_pixels : viewport_draws d.state.viewport ≡ true → bounds_of width height d.state.scissor ≡ None → s ≡ drawn_of store d width height a b c s
   unfolding drawn_of
   no_pixels e f = rw (e, f)
 
-  pub is_in_box : {x0 y0 x1 y1 : ℕ} → viewport_draws d.state.viewport ≡ true → bounds_of width height d.state.scissor ≡ Box x0 y0 x1 y1
-      → left_drawn store d (view_of d.state.viewport height) (record { x0 = x0; y0 = y0; x1 = x1; y1 = y1 }) width a b c s ≡ drawn_of store d width height a b c s
+  pub is_in_box : {box : PixelBox} → viewport_draws d.state.viewport ≡ true → bounds_of width height d.state.scissor ≡ Some box
+      → left_drawn store d (view_of d.state.viewport height) box width a b c s ≡ drawn_of store d width height a b c s
   unfolding drawn_of
   is_in_box e f = rw (e, f)
 

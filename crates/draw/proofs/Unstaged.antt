@@ -1,4 +1,5 @@
 -- A draw without a stage: it is the same whatever its stages, records and texels are. Assumes nothing.
+use Rattle.std.specs.Prelude.{Option, Some, None}
 use mathlib.Core.Path.{◌≡◌, refl}
 use mathlib.Core.Bool.{true, cond}
 use mathlib.Core.List.{List, []}
@@ -12,13 +13,9 @@ use Rattle.answers.proofs.Answered.{refused_test}
 use Rattle.levels.specs.declared.Texture.{Texture}
 use Rattle.settings.specs.declared.TextureStage.{TextureStage}
 use Rattle.settings.specs.declared.PipelineState.{PipelineState}
-use Rattle.scissor.specs.declared.Bounds.{Bounds}
-use Rattle.scissor.specs.declared.Bounds.TheVariants.{Empty, Box}
 use Rattle.scissor.specs.Check.{target_fits}
 use Rattle.scissor.specs.Scissor.{bounds_of}
-use Rattle.setup.specs.declared.PixelBox.{PixelBox}
-use Rattle.setup.specs.declared.Setup.{Setup}
-use Rattle.setup.specs.declared.Setup.TheVariants.{Nothing, Draws}
+use Rattle.scissor.specs.declared.PixelBox.{PixelBox}
 use Rattle.clip.specs.Fan.{Triangle, left_of, draw_each}
 use Rattle.vertices.specs.declared.Vertex.{Vertex}
 use Rattle.screen.specs.declared.View.{View}
@@ -33,6 +30,7 @@ use Rattle.draw_checks.specs.Checks.{all_below, stages_fit, records_fit, vertice
 use Rattle.draw_checks.proofs.Passed.{early_target}
 use Rattle.draw.proofs.Passed.{zero_first}
 use Rattle.draw.specs.Draw.{draw_args, bound_to, draw_check, draw_passed, outcome, drew_all, draw_of}
+use Rattle.setup.specs.declared.Raster.{Raster}
 
 -- ---- the draw past its checks
 
@@ -53,15 +51,15 @@ module _ (s : PipelineState) (store : List ℕ) (stages : List TextureStage) (xs
   unfolding raster_of
   same_raster view within width t c = go (setup_for s view within t)
     where
-      go : (k : Setup) → fill_by store (drawing s stages 0 xs) width t k c ≡ fill_by [] (drawing s [] 0 []) width t k c
-      go Nothing = refl
-      go (Draws r) = same_fill (primitive_of r t.a t.b t.c) width r.pixels c
+      go : (k : Option Raster) → fill_by store (drawing s stages 0 xs) width t k c ≡ fill_by [] (drawing s [] 0 []) width t k c
+      go None = refl
+      go (Some r) = same_fill (primitive_of r t.a t.b t.c) width r.pixels c
 
-  same_bounds : (width height : ℕ) (a b c : Vertex) (k : Bounds) (x : Drawn) → in_bounds_drawn store (drawing s stages 0 xs) width height a b c k x ≡ in_bounds_drawn [] (drawing s [] 0 []) width height a b c k x
+  same_bounds : (width height : ℕ) (a b c : Vertex) (k : Option PixelBox) (x : Drawn) → in_bounds_drawn store (drawing s stages 0 xs) width height a b c k x ≡ in_bounds_drawn [] (drawing s [] 0 []) width height a b c k x
   unfolding left_drawn
-  same_bounds width height a b c Empty x = refl
-  same_bounds width height a b c (Box x0 y0 x1 y1) x =
-      λ i. draw_each (λ t y. same_raster (view_of s.viewport height) (record { x0 = x0; y0 = y0; x1 = x1; y1 = y1 }) width t y i) (left_of a b c) x
+  same_bounds width height a b c None x = refl
+  same_bounds width height a b c (Some box) x =
+      λ i. draw_each (λ t y. same_raster (view_of s.viewport height) box width t y i) (left_of a b c) x
 
   pub unstaged_drawn : (width height : ℕ) (a b c : Vertex) (x : Drawn) → drawn_of store (drawing s stages 0 xs) width height a b c x ≡ drawn_of [] (drawing s [] 0 []) width height a b c x
   unfolding drawn_of

@@ -1,6 +1,7 @@
 -- draw_triangle: the checks, then the draw. Document 01, Draw; raster.rs, draw_triangle.
-use Rattle.std.specs.Prelude.{ℕ, cond, List, eqb, ltb, length, Float}
+use Rattle.std.specs.Prelude.{ℕ, cond, List, eqb, ltb, length, Float, Result, Ok, Err}
 use Rattle.lists.specs.Lists.{tab}
+use Rattle.answers.specs.declared.Refusal.{Refusal}
 use Rattle.answers.specs.Numbers.{refusal_number}
 use Rattle.levels.specs.declared.Texture.{Texture}
 use Rattle.levels.specs.Levels.{new_texture}
@@ -12,8 +13,6 @@ use Rattle.frames.specs.Gather.{Drawn}
 use Rattle.stages.specs.Stages.{stage_at, texture_at}
 use Rattle.pixels.specs.Way.{drawing, drawn_to}
 use Rattle.raster.specs.Fill.{drawn_of}
-use Rattle.draw.specs.declared.DrawAnswer.{DrawAnswer}
-use Rattle.draw.specs.declared.DrawAnswer.TheVariants as D
 use Rattle.draw_checks.specs.Checks.{early_check, late_check}
 
 -- what a draw is handed beside the target, the store and the records
@@ -66,6 +65,6 @@ draw_of store width height x units cs ds =
     (drew_all (draw_passed store width height x units cs ds))
     (outcome (refused (draw_check width height (length cs) (length ds) (length store) x units)) cs ds)
 
-abbrev pub answer_of : DrawAnswer → Answer
-answer_of (D.Drew n) = drew n
-answer_of (D.Refused why) = refused (refusal_number why)
+abbrev pub answer_of : Result ℕ Refusal → Answer
+answer_of (Ok n) = drew n
+answer_of (Err why) = refused (refusal_number why)

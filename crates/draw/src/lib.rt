@@ -5,25 +5,19 @@ pub mod plain;
 
 ghost use Rattle.std.specs.Prelude.{◌≡◌, true, ◌<◌, length};
 ghost use Rattle.scissor.specs.Check.{target_fits};
-ghost use Rattle.pixels.specs.Way.{drawing, drawn_to};
+ghost use Rattle.pixels.specs.Way.{drawn_to};
 ghost use Rattle.raster.specs.Fill.{drawn_of};
-ghost use Rattle.stages.specs.Stages.{StagesFit};
 ghost use Rattle.draw_checks.specs.Checks.{stages_fit, early_check};
 ghost use Rattle.draw.specs.Draw.{bound_at, bound_to, draw_args, draw_of, outcome, answer_of};
 
-use answers::{Answer, Refusal};
+use answers::Refusal;
+use detail::LevelTable;
 use levels::Texture;
-use scissor::Bounds;
+use pixels::Staged;
+use raster::{Draw, Region};
 use settings::{PipelineState, TextureStage};
-use setup::PixelBox;
+use stages::Stages;
 use vertices::Vertex;
-
-// A draw's answer: the number of pixel writes, which its guest is billed for, or the refusal.
-#[derive(Clone, Copy)]
-pub enum DrawAnswer {
-    Drew(usize),
-    Refused(Refusal),
-}
 
 // The record of the unit that stage i names, if the stage is in use.
 fn bound_at(textures: [Texture; 4], stages: [TextureStage; 4], count: usize, i: usize) -> Texture
@@ -51,50 +45,32 @@ fn bind(textures: [Texture; 4], stages: [TextureStage; 4], count: usize) -> [Tex
 }
 
 // The draw past its checks.
-fn draw_checked(
+fn draw_checked<D: Draw>(
     colors: &mut [u8],
     depths: &mut [f32],
     width: u32,
     height: u32,
-    store: &[u8],
-    textures: [Texture; 4],
-    state: PipelineState,
-    stages: [TextureStage; 4],
-    count: usize,
+    paint: &D,
     a: Vertex,
     b: Vertex,
     c: Vertex,
 ) -> usize
-    requires target { target_fits width height (length colors.old) (length depths.old) ≡ true }
-    requires stages_fit { StagesFit (length store.now) count stages textures }
-    ensures { drawn_to colors.new depths.new result ≡ drawn_of store.now (drawing state stages count textures) width height a b c (drawn_to colors.old depths.old 0) }
+    requires { target_fits width height (length colors.old) (length depths.old) ≡ true }
+    ensures { drawn_to colors.new depths.new result ≡ drawn_of (D.store paint.now) (D.drawing paint.now) width height a b c (drawn_to colors.old depths.old 0) }
 {
+    let state = paint.state();
     let viewport = state.viewport;
     if !screen::viewport_draws(viewport) {
         return 0;
     }
     let scissor = state.scissor;
-    let Bounds::Box { x0, y0, x1, y1 } = scissor::scissor_bounds(width, height, scissor) else {
+    let Some(pixels) = scissor::scissor_bounds(width, height, scissor) else {
         return 0;
     };
     let view = screen::view_of(viewport, height);
-    let table = detail::thresholds();
-    raster::draw_left(
-        colors,
-        depths,
-        store,
-        &table,
-        state,
-        stages,
-        count,
-        textures,
-        view,
-        PixelBox { x0, y0, x1, y1 },
-        width as usize,
-        a,
-        b,
-        c,
-    )
+    let width = width as usize;
+    let within = Region { pixels, width };
+    raster::draw_left(colors, depths, paint, view, within, a, b, c)
 }
 
 // Past the checks before 8. units: the four units' records.
@@ -111,21 +87,25 @@ fn draw_named(
     a: Vertex,
     b: Vertex,
     c: Vertex,
-) -> DrawAnswer
+) -> Result<usize, Refusal>
     requires { early_check width height (length colors.old) (length depths.old) state stages count ≡ 0 }
     ensures { outcome (answer_of result) colors.new depths.new ≡ draw_of store.now width height (draw_args state stages count a b c) units colors.old depths.old }
 {
     let textures = bind(units, stages, count);
-    let Answer::Refused(why) = draw_checks::check_late(store.len(), count, textures, a, b, c) else {
-        let n = draw_checked(
-            colors, depths, width, height, store, textures, state, stages, count, a, b, c,
-        );
-        return DrawAnswer::Drew(n);
+    draw_checks::check_late(store.len(), count, textures, a, b, c)?;
+    let table = LevelTable::new();
+    let stages = Stages {
+        store,
+        table: &table,
+        stages,
+        count,
+        textures: &textures,
     };
-    DrawAnswer::Refused(why)
+    let paint = Staged { state, stages };
+    Ok(draw_checked(colors, depths, width, height, &paint, a, b, c))
 }
 
-// Draws one triangle on a target of width by height pixels. units: the four units' texture records, with their texels in the store.
+// Draws one triangle on a target of width by height pixels, and answers the number of pixel writes, which its guest is billed for. units: the four units' texture records, with their texels in the store.
 // The first count stages are in use.
 pub fn draw_triangle(
     colors: &mut [u8],
@@ -140,10 +120,10 @@ pub fn draw_triangle(
     a: Vertex,
     b: Vertex,
     c: Vertex,
-) -> DrawAnswer
+) -> Result<usize, Refusal>
     ensures { outcome (answer_of result) colors.new depths.new ≡ draw_of store.now width height (draw_args state stages count a b c) units colors.old depths.old }
 {
-    let Answer::Refused(why) = draw_checks::check_early(
+    draw_checks::check_early(
         width,
         height,
         colors.len(),
@@ -151,10 +131,8 @@ pub fn draw_triangle(
         state,
         stages,
         count,
-    ) else {
-        return draw_named(
-            colors, depths, width, height, store, units, state, stages, count, a, b, c,
-        );
-    };
-    DrawAnswer::Refused(why)
+    )?;
+    draw_named(
+        colors, depths, width, height, store, units, state, stages, count, a, b, c,
+    )
 }

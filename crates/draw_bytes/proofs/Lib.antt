@@ -1,4 +1,3 @@
-pub mod Bits
 pub mod Words
 pub mod RoundTrip
 pub mod VertexBack

@@ -1,4 +1,6 @@
 -- What is written reads back the same. Assumes nothing.
+use Rattle.std.specs.Prelude.{Ok}
+use Rattle.std.specs.Result.{is_ok, result_unwrap_or}
 use mathlib.Core.Bool.{Bool, true, false, not}
 use mathlib.Core.Path.{◌≡◌, refl, sym, ap, ◌∙◌}
 use mathlib.Core.List.{List}
@@ -22,9 +24,9 @@ use Rattle.settings.specs.declared.TextureStage.{TextureStage}
 use Rattle.layouts.specs.Words.{word}
 use Rattle.layouts.proofs.RoundTrip.{digits}
 use Rattle.draw_layouts.specs.Numbers.{signed_of, signed_at, float_at, switch_at, color_at}
-use Rattle.draw_layouts.specs.Codes.{env_known, env_of}
+use Rattle.settings.specs.Codes.{env_of, env_code}
 use Rattle.draw_layouts.specs.Stages.{read_stage}
-use Rattle.draw_bytes.specs.Write.{word_bytes, word_bytes_at, bytes_of, bits_of, float_bits, switch_word, env_code, stage_words}
+use Rattle.draw_bytes.specs.Write.{word_bytes, word_bytes_at, bytes_of, bits_of, float_bits, switch_word, stage_words}
 use Rattle.draw_bytes.proofs.Words.{length_word}
 
 -- ---- words
@@ -81,13 +83,13 @@ module _ (ws : List ℕ) (k : ℕ) (h : k < length ws) where
 
 -- ---- a stage
 
-pub env_back : (e : TexEnvMode) → (env_known (env_code e % 4294967296) ≡ true) × (env_of (env_code e % 4294967296) ≡ e)
-unfolding env_known env_of
-env_back Modulate = (refl, refl)
-env_back Replace = (refl, refl)
-env_back Decal = (refl, refl)
-env_back Blend = (refl, refl)
-env_back Add = (refl, refl)
+pub env_back : (e : TexEnvMode) → env_of (env_code e % 4294967296) ≡ Ok e
+unfolding env_of
+env_back Modulate = refl
+env_back Replace = refl
+env_back Decal = refl
+env_back Blend = refl
+env_back Add = refl
 
 -- its numbers fit their words, as those of any stage in the code do
 pub record StageFits (x : TextureStage) : Type 0 where
@@ -101,15 +103,18 @@ six : (x : TextureStage) → length (stage_words x) ≡ 6
 unfolding stage_words
 six x = refl
 
-pub stage_is_known : (x : TextureStage) → env_known (word (bytes_of (stage_words x)) 4) ≡ true
+env_at : (x : TextureStage) → env_of (word (bytes_of (stage_words x)) 4) ≡ Ok x.env
 unfolding stage_words
-stage_is_known x = ap env_known (word_back (stage_words x) 1 (omega (arith, six x))) ∙ (env_back x.env).0
+env_at x = ap env_of (word_back (stage_words x) 1 (omega (arith, six x))) ∙ env_back x.env
+
+pub stage_is_known : (x : TextureStage) → is_ok (env_of (word (bytes_of (stage_words x)) 4)) ≡ true
+stage_is_known x = ap is_ok (env_at x)
 
 pub stage_back : (x : TextureStage) → StageFits x → read_stage (bytes_of (stage_words x)) 0 ≡ x
 unfolding read_stage stage_words color_at
 stage_back x f = λ t. record {
   unit = (word_back (stage_words x) 0 (omega (arith, six x)) ∙ below x.unit f.unit) t;
-  env = (ap env_of (word_back (stage_words x) 1 (omega (arith, six x))) ∙ (env_back x.env).1) t;
+  env = result_unwrap_or (env_at x t) Add;
   env_color = record {
     r = float_back (stage_words x) 2 (omega (arith, six x)) x.env_color.r refl f.r t;
     g = float_back (stage_words x) 3 (omega (arith, six x)) x.env_color.g refl f.g t;

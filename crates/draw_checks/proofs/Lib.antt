@@ -1,4 +1,3 @@
 pub mod Below
-pub mod Alls
 pub mod Passed
 pub mod Early

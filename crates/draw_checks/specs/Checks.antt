@@ -1,7 +1,7 @@
 -- Document 01, Draw: the checks 1, 2, 3, 4, 7, 6, 8, 5, in that order.
 use Rattle.std.specs.Prelude.{ℕ, zero, suc, Bool, true, false, cond, List, [], ◌∷◌, ltb, leb, pos, Float}
 use Rattle.std.specs.Int.Signed.{le_z}
-use Rattle.lists.specs.Lists.{all}
+use Rattle.std.specs.List.{list_all}
 use Rattle.floats.specs.Num.{bounded_of}
 use Rattle.levels.specs.declared.Texture.{Texture}
 use Rattle.levels.specs.Levels.{valid_of}
@@ -27,7 +27,7 @@ viewport_fits v = cond (number_fits v.x) (cond (number_fits v.y) (cond (le_z v.w
 
 -- 4, of a colour
 unfoldable pub color_fits : Rgba → Bool
-color_fits c = all bounded_of (c.r ∷ c.g ∷ c.b ∷ c.a ∷ [])
+color_fits c = list_all bounded_of (c.r ∷ c.g ∷ c.b ∷ c.a ∷ [])
 
 -- 4: every float in the settings
 abbrev pub state_floats : PipelineState → List Float
@@ -37,7 +37,7 @@ state_floats s =
     ∷ s.fog_start ∷ s.fog_end ∷ s.fog_density ∷ []
 
 unfoldable pub state_fits : PipelineState → Bool
-state_fits s = all bounded_of (state_floats s)
+state_fits s = list_all bounded_of (state_floats s)
 
 -- 7: fog on with an exponential curve
 abbrev pub is_linear : FogMode → Bool
@@ -61,7 +61,7 @@ records_fit len n xs = all_below n (λ i. valid_of len (texture_at xs i))
 
 -- 5: every number of the vertices
 unfoldable pub vertex_fits : Vertex → Bool
-vertex_fits v = all bounded_of (floats_of v)
+vertex_fits v = list_all bounded_of (floats_of v)
 
 unfoldable pub vertices_fit : Vertex → Vertex → Vertex → Bool
 vertices_fit a b c = cond (vertex_fits a) (cond (vertex_fits b) (vertex_fits c) false) false

@@ -1,212 +1,141 @@
 // The checks of a draw, in document 01's order: 1, 2, 3, 4, 7, 6, and then 8, 5.
 #![tactic(auto)]
 
-ghost use Rattle.std.specs.Prelude.{◌≡◌, ◌≤◌, length, [], ◌∷◌};
-ghost use Rattle.lists.specs.Lists.{all};
-ghost use Rattle.answers.specs.Numbers.{number_of};
+ghost use Rattle.std.specs.Prelude.{◌≡◌, ◌≤◌, []};
+ghost use Rattle.std.specs.List.{list_all};
+ghost use Rattle.answers.specs.Results.{answer_number};
 ghost use Rattle.floats.specs.Num.{bounded_of};
-ghost use Rattle.draw_checks.specs.Checks.{viewport_fits, color_fits, state_fits, fog_fits, is_linear, stage_fits, stages_fit, records_fit, vertex_fits, vertices_fit, early_check, late_check};
+ghost use Rattle.levels.specs.Levels.{valid_of};
+ghost use Rattle.draw_checks.specs.Checks.{viewport_fits, color_fits, state_fits, fog_fits, stage_fits, stages_fit, records_fit, vertex_fits, vertices_fit, early_check, late_check};
 
-use answers::{Answer, Refusal};
+use answers::Refusal;
 use levels::Texture;
 use settings::{FogMode, PipelineState, Rgba, TextureStage, Viewport};
 use vertices::Vertex;
 
+#[tactic(auto, unfolding(crate::specs::Checks::viewport_fits))]
 fn viewport_fits(v: Viewport) -> bool
     ensures { result ≡ viewport_fits v }
 {
-    if !scissor::number_fits(v.x) {
-        return false;
-    }
-    if !scissor::number_fits(v.y) {
-        return false;
-    }
-    if v.width <= 4096 {
-        return v.height <= 4096;
-    }
-    false
+    scissor::number_fits(v.x) && scissor::number_fits(v.y) && v.width <= 4096 && v.height <= 4096
 }
 
-fn four_fit(v: [f32; 4]) -> bool
-    ensures { (result ≡ all bounded_of v) × (length v ≡ 4) }
+fn all_fit(v: &[f32]) -> bool
+    ensures { result ≡ list_all bounded_of v.now }
 {
-    for i in 0..4 {
-        if !floats::is_bounded(v[i]) {
-            return false;
-        }
-    }
-    true
+    v.iter().all(|x| floats::is_bounded(*x))
 }
 
-fn eight_fit(v: [f32; 8]) -> bool
-    ensures { (result ≡ all bounded_of v) × (length v ≡ 8) }
-{
-    for i in 0..8 {
-        if !floats::is_bounded(v[i]) {
-            return false;
-        }
-    }
-    true
-}
-
+#[tactic(auto, unfolding(crate::specs::Checks::color_fits))]
 fn color_fits(c: Rgba) -> bool
     ensures { result ≡ color_fits c }
 {
-    if !floats::is_bounded(c.r) {
-        return false;
-    }
-    if !floats::is_bounded(c.g) {
-        return false;
-    }
-    if !floats::is_bounded(c.b) {
-        return false;
-    }
-    floats::is_bounded(c.a)
-}
-
-fn three_fit(a: f32, b: f32, c: f32) -> bool
-    ensures { result ≡ all bounded_of (a ∷ b ∷ c ∷ []) }
-{
-    if !floats::is_bounded(a) {
-        return false;
-    }
-    if !floats::is_bounded(b) {
-        return false;
-    }
-    floats::is_bounded(c)
+    all_fit(&[c.r, c.g, c.b, c.a])
 }
 
 fn state_fits(s: PipelineState) -> bool
     ensures { result ≡ state_fits s }
 {
     let range = s.depth_range;
-    if !three_fit(range.near, range.far, s.alpha_ref) {
-        return false;
-    }
     let fog = s.fog_color;
-    if !color_fits(fog) {
-        return false;
-    }
-    three_fit(s.fog_start, s.fog_end, s.fog_density)
+    all_fit(&[
+        range.near,
+        range.far,
+        s.alpha_ref,
+        fog.r,
+        fog.g,
+        fog.b,
+        fog.a,
+        s.fog_start,
+        s.fog_end,
+        s.fog_density,
+    ])
 }
 
-fn is_linear(mode: FogMode) -> bool
-    ensures { result ≡ is_linear mode }
-{
-    match mode {
-        FogMode::Linear => true,
-        FogMode::Exp => false,
-        FogMode::Exp2 => false,
-    }
-}
-
+#[tactic(auto, unfolding(crate::specs::Checks::fog_fits))]
 fn fog_fits(s: PipelineState) -> bool
     ensures { result ≡ fog_fits s }
 {
-    if s.fog {
-        let mode = s.fog_mode;
-        return is_linear(mode);
-    }
-    true
+    !s.fog || matches!(s.fog_mode, FogMode::Linear)
 }
 
+#[tactic(auto, using(std::proofs::lemmas::Bool::Decides::nat_tests), unfolding(crate::specs::Checks::stage_fits))]
 fn stage_fits(x: TextureStage) -> bool
     ensures { result ≡ stage_fits x }
 {
-    if x.unit >= PipelineState::MAX_TEXTURE_STAGES {
-        return false;
-    }
-    let color = x.env_color;
-    color_fits(color)
+    x.unit < PipelineState::MAX_TEXTURE_STAGES && color_fits(x.env_color)
+}
+
+fn each_stage_fits(stages: &[TextureStage]) -> bool
+    ensures { result ≡ list_all stage_fits stages.now }
+{
+    stages.iter().all(|x| stage_fits(*x))
 }
 
 fn stages_fit(stages: [TextureStage; 4], count: usize) -> bool
     ensures { result ≡ stages_fit stages count }
 {
-    if count > 4 {
-        return false;
-    }
-    for i in 0..count {
-        if !stage_fits(stages[i]) {
-            return false;
-        }
-    }
-    true
+    count <= 4 && each_stage_fits(&stages[..count])
+}
+
+fn each_record_fits(textures: &[Texture], len: usize) -> bool
+    ensures { result ≡ list_all (valid_of len) textures.now }
+{
+    textures.iter().all(|x| levels::is_valid(*x, len))
 }
 
 fn records_fit(textures: [Texture; 4], count: usize, len: usize) -> bool
     requires { count ≤ 4 }
     ensures { result ≡ records_fit len count textures }
 {
-    for i in 0..count {
-        if !levels::is_valid(textures[i], len) {
-            return false;
-        }
-    }
-    true
+    each_record_fits(&textures[..count], len)
 }
 
+#[tactic(auto, unfolding(crate::specs::Checks::vertex_fits))]
 fn vertex_fits(v: Vertex) -> bool
     ensures { result ≡ vertex_fits v }
 {
-    let pos = v.pos;
-    if !four_fit(pos) {
-        return false;
-    }
-    let color = v.color;
-    if !four_fit(color) {
-        return false;
-    }
-    let texcoord = v.texcoord;
-    if !eight_fit(texcoord) {
-        return false;
-    }
-    floats::is_bounded(v.fog_depth)
+    all_fit(&v.pos) && all_fit(&v.color) && all_fit(&v.texcoord) && floats::is_bounded(v.fog_depth)
 }
 
+#[tactic(auto, unfolding(crate::specs::Checks::vertices_fit))]
 pub fn vertices_fit(a: Vertex, b: Vertex, c: Vertex) -> bool
     ensures { result ≡ vertices_fit a b c }
 {
-    if !vertex_fits(a) {
-        return false;
-    }
-    if !vertex_fits(b) {
-        return false;
-    }
-    vertex_fits(c)
+    vertex_fits(a) && vertex_fits(b) && vertex_fits(c)
 }
 
 // 1, 2, 3, 4 and 7.
+#[tactic(auto, using(std::proofs::lemmas::Bool::Decides::nat_tests), unfolding(crate::specs::Checks::early_check, crate::specs::Checks::stages_fit, crate::specs::Checks::all_below))]
 pub fn check_settings(
     width: u32,
     height: u32,
     colors: usize,
     depths: usize,
     s: PipelineState,
-) -> Answer
-    ensures { number_of result ≡ early_check width height colors depths s [] 0 }
+) -> Result<(), Refusal>
+    ensures { answer_number result ≡ early_check width height colors depths s [] 0 }
 {
     if !scissor::target_fits(width, height, colors, depths) {
-        return Answer::Refused(Refusal::Target);
+        return Err(Refusal::Target);
     }
-    let scissor = s.scissor;
-    if !scissor::scissor_fits(scissor) {
-        return Answer::Refused(Refusal::Scissor);
+    if !scissor::scissor_fits(s.scissor) {
+        return Err(Refusal::Scissor);
     }
-    let viewport = s.viewport;
-    if !viewport_fits(viewport) {
-        return Answer::Refused(Refusal::Viewport);
+    if !viewport_fits(s.viewport) {
+        return Err(Refusal::Viewport);
     }
     if !state_fits(s) {
-        return Answer::Refused(Refusal::Float);
+        return Err(Refusal::Float);
     }
     if !fog_fits(s) {
-        return Answer::Refused(Refusal::FogCurve);
+        return Err(Refusal::FogCurve);
     }
-    Answer::Done
+    Ok(())
 }
 
 // 1, 2, 3, 4, 7 and 6.
+#[tactic(auto, using(std::proofs::lemmas::Bool::Decides::nat_tests), unfolding(crate::specs::Checks::early_check))]
 pub fn check_early(
     width: u32,
     height: u32,
@@ -215,19 +144,18 @@ pub fn check_early(
     s: PipelineState,
     stages: [TextureStage; 4],
     count: usize,
-) -> Answer
-    ensures { number_of result ≡ early_check width height colors depths s stages count }
+) -> Result<(), Refusal>
+    ensures { answer_number result ≡ early_check width height colors depths s stages count }
 {
-    let Answer::Refused(why) = check_settings(width, height, colors, depths, s) else {
-        if !stages_fit(stages, count) {
-            return Answer::Refused(Refusal::Stage);
-        }
-        return Answer::Done;
-    };
-    Answer::Refused(why)
+    check_settings(width, height, colors, depths, s)?;
+    if !stages_fit(stages, count) {
+        return Err(Refusal::Stage);
+    }
+    Ok(())
 }
 
 // 8 and 5.
+#[tactic(auto, using(std::proofs::lemmas::Bool::Decides::nat_tests), unfolding(crate::specs::Checks::late_check))]
 pub fn check_late(
     len: usize,
     count: usize,
@@ -235,15 +163,15 @@ pub fn check_late(
     a: Vertex,
     b: Vertex,
     c: Vertex,
-) -> Answer
+) -> Result<(), Refusal>
     requires { count ≤ 4 }
-    ensures { number_of result ≡ late_check len count textures a b c }
+    ensures { answer_number result ≡ late_check len count textures a b c }
 {
     if !records_fit(textures, count, len) {
-        return Answer::Refused(Refusal::Record);
+        return Err(Refusal::Record);
     }
     if !vertices_fit(a, b, c) {
-        return Answer::Refused(Refusal::Vertex);
+        return Err(Refusal::Vertex);
     }
-    Answer::Done
+    Ok(())
 }

@@ -1,1 +1,1 @@
-pub mod Signs
+pub mod Read

@@ -1,23 +1,24 @@
 -- The byte layout of a draw's texture stages (docs/INTERFACE.md, "Draw"): 24 bytes a stage.
-use Rattle.std.specs.Prelude.{ℕ, ◌+◌, ◌*◌, ◌/◌, ◌%◌, Bool, true, false, cond, List, [], ◌∷◌, eqb, ltb, length}
+use Rattle.std.specs.Prelude.{ℕ, ◌+◌, ◌*◌, ◌/◌, ◌%◌, Bool, true, false, cond, List, [], ◌∷◌, eqb, ltb, length, Option, Some, None}
+use Rattle.std.specs.Result.{is_ok, result_unwrap_or}
 use Rattle.settings.specs.declared.TextureStage.{TextureStage}
-use Rattle.settings.specs.declared.TexEnvMode.TheVariants.{Modulate}
+use Rattle.settings.specs.declared.TexEnvMode.TheVariants.{Modulate, Add}
 use Rattle.settings.specs.Settings.{black}
 use Rattle.layouts.specs.Words.{word}
-use Rattle.draw_layouts.specs.declared.StagesRead.{StagesRead}
+use Rattle.draw_layouts.specs.declared.Stages.{Stages}
 use Rattle.draw_layouts.specs.Numbers.{color_at}
-use Rattle.draw_layouts.specs.Codes.{env_known, env_of}
+use Rattle.settings.specs.Codes.{env_of}
 
 -- the stage at byte i
 unfoldable pub read_stage : List ℕ → ℕ → TextureStage
-read_stage b i = record { unit = word b i; env = env_of (word b (i + 4)); env_color = color_at b (i + 8) }
+read_stage b i = record { unit = word b i; env = result_unwrap_or (env_of (word b (i + 4))) Add; env_color = color_at b (i + 8) }
 
 -- stage k where the layout has one
 unfoldable pub stage_or : List ℕ → ℕ → TextureStage
 stage_or b k = cond (ltb k (length b / 24)) (read_stage b (k * 24)) (record { unit = 0; env = Modulate; env_color = black })
 
 unfoldable pub stage_known : List ℕ → ℕ → Bool
-stage_known b k = cond (ltb k (length b / 24)) (env_known (word b (k * 24 + 4))) true
+stage_known b k = cond (ltb k (length b / 24)) (is_ok (env_of (word b (k * 24 + 4)))) true
 
 -- only the first four are read
 unfoldable pub first_known : List ℕ → Bool
@@ -30,5 +31,5 @@ first_four b = stage_or b 0 ∷ stage_or b 1 ∷ stage_or b 2 ∷ stage_or b 3 �
 unfoldable pub stages_known : List ℕ → Bool
 stages_known b = cond (eqb (length b % 24) 0) (first_known b) false
 
-unfoldable pub read_stages : List ℕ → StagesRead
-read_stages b = record { known = stages_known b; stages = first_four b; count = length b / 24 }
+unfoldable pub read_stages : List ℕ → Option Stages
+read_stages b = cond (stages_known b) (Some (record { first = first_four b; count = length b / 24 })) None

@@ -1,4 +1,6 @@
 -- A draw has at most forty fragments for each pixel of its target, and its count is no more than its fragments. Assumes nothing.
+use Rattle.std.specs.Prelude as Std
+use Rattle.std.specs.Prelude.{Some, None}
 use mathlib.Core.Path.{◌≡◌, refl, ap}
 use mathlib.Core.Bool.{Bool, true, false, cond}
 use mathlib.Core.Option.{Option, none, some}
@@ -9,8 +11,6 @@ use native.Mathlib.Omega.{arith}
 use lib.ListN.{length, length-append}
 use lib.Ieee.{Float}
 use Rattle.settings.specs.declared.PipelineState.{PipelineState}
-use Rattle.scissor.specs.declared.Bounds.{Bounds}
-use Rattle.scissor.specs.declared.Bounds.TheVariants.{Empty, Box}
 use Rattle.scissor.specs.Scissor.{bounds_of}
 use Rattle.scissor.proofs.Boxes.{Inside, bounds_inside}
 use Rattle.vertices.specs.declared.Vertex.{Vertex}
@@ -18,9 +18,7 @@ use Rattle.clip.specs.Fan.{Triangle, left_of}
 use Rattle.clip.proofs.Fans.{left_few}
 use Rattle.screen.specs.declared.View.{View}
 use Rattle.screen.specs.Screen.{viewport_draws, view_of}
-use Rattle.setup.specs.declared.PixelBox.{PixelBox}
-use Rattle.setup.specs.declared.Setup.{Setup}
-use Rattle.setup.specs.declared.Setup.TheVariants.{Nothing, Draws}
+use Rattle.scissor.specs.declared.PixelBox.{PixelBox}
 use Rattle.coverage.specs.declared.Primitive.{Primitive}
 use Rattle.frames.specs.State.{Pixel}
 use Rattle.frames.specs.Fragments.{paint, spread, grid, shown}
@@ -31,6 +29,7 @@ use Rattle.draw_reads.specs.Items.{Item, item_at, pixel_no, box_items, setup_ite
 use Rattle.draw_reads.specs.Pixels.{frag_of, wrote}
 use Rattle.draw_reads.proofs.Runs.{step, setup_within, draw_runs}
 use Rattle.draw_reads.proofs.Counts.{step_count}
+use Rattle.setup.specs.declared.Raster.{Raster}
 
 -- ---- how many fragments there are
 
@@ -64,9 +63,9 @@ triangle_few : (width height : ℕ) (s : PipelineState) (view : View) (w : Pixel
 unfolding triangle_items setup_for
 triangle_few width height s view w (i, j) t = go (setup_for s view w t) refl
   where
-    go : (x : Setup) → setup_for s view w t ≡ x → length (setup_items t x) ≤ width * height
-    go Nothing e = omega arith
-    go (Draws r) e =
+    go : (x : Std.Option Raster) → setup_for s view w t ≡ x → length (setup_items t x) ≤ width * height
+    go None e = omega arith
+    go (Some r) e =
         let h = setup_within view _ _ _ w t.a t.b t.c r e in
         box_few width height (primitive_of r t.a t.b t.c) r.pixels (omega (arith, h.x_to), omega (arith, h.y_to))
 
@@ -75,10 +74,9 @@ unfolding each_items
 each_few f m h [] = omega arith
 each_few f m h (t ∷ l) = omega (arith, length-append (f t) (each_items f l), h t, each_few f m h l)
 
-bounds_few : (s : PipelineState) (width height : ℕ) (a b c : Vertex) (x : Bounds) → Inside width height x → length (bounds_items s height a b c x) ≤ 40 * (width * height)
-bounds_few s width height a b c Empty i = omega arith
-bounds_few s width height a b c (Box x0 y0 x1 y1) (i, j, k, l) =
-    let w : PixelBox = record { x0 = x0; y0 = y0; x1 = x1; y1 = y1 } in
+bounds_few : (s : PipelineState) (width height : ℕ) (a b c : Vertex) (x : Std.Option PixelBox) → Inside width height x → length (bounds_items s height a b c x) ≤ 40 * (width * height)
+bounds_few s width height a b c None i = omega arith
+bounds_few s width height a b c (Some w) (i, j, k, l) =
     let e = each_few (triangle_items s (view_of s.viewport height) w) (width * height) (triangle_few width height s (view_of s.viewport height) w (j, l)) (left_of a b c) in
     omega (arith, e, mul-le-mul (left_few a b c) (le_self (width * height)))
   where
@@ -89,7 +87,7 @@ pub items_few : (s : PipelineState) (width height : ℕ) (a b c : Vertex) → le
 unfolding draw_items
 items_few s width height a b c = go (viewport_draws s.viewport)
   where
-    x : Bounds
+    x : Std.Option PixelBox
     x = bounds_of width height s.scissor
 
     go : (y : Bool) → length (cond y (bounds_items s height a b c x) []) ≤ 40 * (width * height)

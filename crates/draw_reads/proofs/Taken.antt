@@ -1,4 +1,5 @@
 -- A pixel's way hangs on the store's bytes that it tells it takes, and on no others: the law of a fragment. Assumes nothing.
+use Rattle.std.specs.Prelude as Std
 use mathlib.Core.Path.{◌≡◌, refl, ap, ◌∙◌}
 use mathlib.Core.Bool.{Bool, true, false, cond}
 use mathlib.Core.List.{List, []}
@@ -21,8 +22,6 @@ use Rattle.frames.specs.Gather.{drawn, Frag}
 use Rattle.frames.proofs.Fragments.{in_left, in_right}
 use Rattle.frames.proofs.Gather.{bytes_same, frag_local}
 use Rattle.coverage.specs.declared.Primitive.{Primitive}
-use Rattle.pixels.specs.declared.Fragment.{Fragment}
-use Rattle.pixels.specs.declared.Fragment.TheVariants.{Dropped}
 use Rattle.coverage.specs.Coverage.{weights_of, covered_by, depth_at}
 use Rattle.stages.specs.Stages.{stage_at, texture_at, coordinates_of, stage_color, stage_step, stages_color, stages_addresses}
 use Rattle.pixels.specs.Way.{Drawing, reaches, rec_of, shaded_of, fog_depth_of, finished, fragment_of, left_by, frag_at}
@@ -57,10 +56,10 @@ module _ (st su : List ℕ) where
     unfolding fragment_of shaded_of
     fragment_same stored h = go (reaches d.state t w stored) h
       where
-        tail : List ℕ → Fragment
+        tail : List ℕ → Std.Option (Float × Rgba)
         tail l = finished d.state (depth_at t.raster w) (fog_depth_of t w) (shaded_of l d t w)
 
-        go : (b : Bool) → SameAt st su (cond b (stages_addresses d.stages d.count d.textures t w (rec_of t w)) []) → cond b (tail st) Dropped ≡ cond b (tail su) Dropped
+        go : (b : Bool) → SameAt st su (cond b (stages_addresses d.stages d.count d.textures t w (rec_of t w)) []) → cond b (tail st) Std.None ≡ cond b (tail su) Std.None
         go true k = ap (finished d.state (depth_at t.raster w) (fog_depth_of t w)) (stages_same d.stages d.textures t w (rec_of t w) d.count _ k)
         go false k = refl
 

@@ -1,8 +1,9 @@
 -- A float's sign, kind and size, by the comparisons that the code makes. Assumes nothing.
-use Rattle.std.proofs.Common.{◌≡◌, ℕ, zero, suc, ◌+◌, ◌*◌, ◌%◌, ◌^◌, ◌<◌, ◌≤◌, Bool, true, false, not, ◌&&◌, ◌||◌, T, eqb, ltb, leb, ◌⊎◌, ℤ, pos, negsuc, sym, refl, ap, ◌∙◌, inl, inr, zero-lt-suc, eq-or-lt_of_le, mul-pos, mul-one, arith, eqb→eq, pow_pos, ltb-false, ltb-true, le-ltb, lt-ltb, eq-eqb, eqb-true, le-leb, leb-true}
-use lib.Ieee.{Float, nan, inf, fin, up, down, lt, le, eq, ne, neg, fits, is_nan, of_bits, nan_bits, binary32}
-use lib.Ieee.Bits.{nan_bits_is, nan_bits_above}
-use lib.Ieee.Fits.{down_pos, up_pos}
+use Rattle.std.proofs.Common.{◌≡◌, ℕ, zero, suc, ◌+◌, ◌*◌, ◌%◌, ◌^◌, ◌<◌, ◌≤◌, Bool, true, false, not, ◌&&◌, ◌||◌, T, eqb, ltb, leb, ◌⊎◌, ℤ, pos, negsuc, sym, refl, ap, ◌∙◌, inl, inr, eq-or-lt_of_le, mul-one, arith, eqb→eq, pow_pos, ltb-false, ltb-true, le-ltb, lt-ltb, eq-eqb, eqb-true, le-leb, leb-true}
+use lib.Ieee.{Float, nan, inf, fin, up, down, lt, le, eq, ne, neg, fits, is_nan, nan_bits, binary32}
+use Rattle.std.specs.Float.{float_with_sign, float_is_finite}
+use lib.Ieee.Bits.{nan_bits_above}
+use lib.Ieee.Fits.{down_pos}
 use native.Mathlib.Nat.{pow-succ'}
 use borrow.Author.Tests.{lt-leb}
 use Rattle.lists.proofs.Choice.{true_false}
@@ -12,14 +13,18 @@ use Rattle.floats.proofs.Cut.{two_to}
 abbrev pub nought : Float
 nought = fin false 0 (pos 0)
 
--- ---- abs
-pub abs_below : (x : Float) → lt x nought ≡ true → neg x ≡ abs_of x
-unfolding lt neg abs_of
-abs_below nan e = absurd (true_false (sym e))
-abs_below (inf true) e = refl
-abs_below (inf false) e = absurd (true_false (sym e))
-abs_below (fin true m d) e = refl
-abs_below (fin false m d) e = absurd (omega (arith, ltb-true (m * up d * 1) (0 * 1 * down d) e))
+-- ---- std's words for the sign and the kind are ours
+pub abs_is : (x : Float) → float_with_sign false x ≡ abs_of x
+unfolding float_with_sign abs_of
+abs_is nan = refl
+abs_is (inf s) = refl
+abs_is (fin s m e) = refl
+
+pub finite_is : (x : Float) → float_is_finite x ≡ finite_of x
+unfolding float_is_finite finite_of
+finite_is nan = refl
+finite_is (inf s) = refl
+finite_is (fin s m e) = refl
 
 -- a zero of the format has the exponent 0
 pub zero_exponent : (s : Bool) (e : ℤ) → T (fits binary32 (fin s zero e)) → e ≡ pos 0
@@ -27,26 +32,6 @@ unfolding fits
 zero_exponent s (pos zero) f = refl
 zero_exponent s (pos (suc k)) f = absurd (omega (arith, eqb→eq (2 ^ suc k * 1) 1 f, pow-succ' 2 k, pow_pos k))
 zero_exponent s (negsuc k) f = absurd (omega (arith, eqb→eq (1 * 2 ^ suc k) 1 f, pow-succ' 2 k, pow_pos k))
-
-pub abs_zero : (x : Float) → T (fits binary32 x) → eq x nought ≡ true → nought ≡ abs_of x
-unfolding eq abs_of
-abs_zero nan f e = absurd (true_false (sym e))
-abs_zero (inf s) f e = absurd (true_false (sym e))
-abs_zero (fin s zero d) f e = ap (fin false zero) (sym (zero_exponent s d f))
-abs_zero (fin s (suc m) d) f e = absurd (no (eqb (suc m * up d * 1) (0 * 1 * down d)) _ (eqb-true (suc m * up d * 1) (0 * 1 * down d)) e)
-  where
-    no : (a b : Bool) → (a ≡ true → suc m * up d * 1 ≡ 0 * 1 * down d) → a && b ≡ true → ⊥
-    no true b h e = omega (arith, h refl, mul-pos (zero-lt-suc m) (up_pos d))
-    no false b h e = true_false (sym e)
-
-pub abs_above : (x : Float) → lt x nought ≡ false → eq x nought ≡ false → x ≡ abs_of x
-unfolding lt eq abs_of
-abs_above nan a b = refl
-abs_above (inf true) a b = absurd (true_false a)
-abs_above (inf false) a b = refl
-abs_above (fin false m d) a b = refl
-abs_above (fin true zero d) a b = absurd (true_false (sym (rw (eq-eqb (0 * up d * 1) (0 * 1 * down d) (omega arith), eq-eqb (0 * up d * 1) 0 (omega arith))) ∙ b))
-abs_above (fin true (suc m) d) a b = absurd (omega (arith, ltb-false 0 (suc m * up d * 1 + 0 * 1 * down d) a, mul-pos (zero-lt-suc m) (up_pos d)))
 
 -- ---- NaN is the one value that differs from itself
 pub nan_is : (x : Float) → ne x x ≡ is_nan x
@@ -56,20 +41,6 @@ nan_is (inf true) = refl
 nan_is (inf false) = refl
 nan_is (fin true m e) = rw (eq-eqb (m * up e * down e) (m * up e * down e) refl)
 nan_is (fin false m e) = rw (eq-eqb (m * up e * down e) (m * up e * down e) refl)
-
--- ---- finite
-pub finite_below : (x : Float) → lt x (inf false) ≡ true → lt (inf true) x ≡ finite_of x
-unfolding lt finite_of
-finite_below nan e = refl
-finite_below (inf true) e = refl
-finite_below (inf false) e = absurd (true_false (sym e))
-finite_below (fin s m d) e = refl
-
-pub finite_above : (x : Float) → lt x (inf false) ≡ false → false ≡ finite_of x
-unfolding lt finite_of
-finite_above nan e = refl
-finite_above (inf s) e = refl
-finite_above (fin s m d) e = absurd (true_false e)
 
 -- ---- the rule of 4
 -- a < b or a = b, as one test
@@ -114,15 +85,6 @@ bounded_above (inf s) e = refl
 bounded_above (fin true m d) e = absurd (true_false (sym (rw (lt-ltb 0 (m * up d * 1 + 1 * 2 ^ 20 * down d) (omega (arith, down_pos d)))) ∙ e))
 bounded_above (fin false m d) e = sym e ∙ plain m d ∙ same (m * up d) (down d)
 
--- ---- NaN's bit patterns
-is_nan_of : (x : Float) → is_nan x ≡ true → nan ≡ x
-unfolding is_nan
-is_nan_of nan e = refl
-is_nan_of (inf s) e = absurd (true_false (sym e))
-is_nan_of (fin s m d) e = absurd (true_false (sym e))
-
-pub pattern_nan : (n : ℕ) → 0x7f80_0000 < n % 0x8000_0000 → nan ≡ of_bits binary32 n
-pattern_nan n h = is_nan_of (of_bits binary32 n) (sym (nan_bits_is binary32 n) ∙ nan_bits_above binary32 n ∙ lt-ltb 0x7f80_0000 (n % 0x8000_0000) h)
-
+-- ---- a number's bit patterns
 pub pattern_number : (n : ℕ) → n % 0x8000_0000 ≤ 0x7f80_0000 → T (not (nan_bits binary32 n))
 pattern_number n h = rw (nan_bits_above binary32 n, le-ltb 0x7f80_0000 (n % 0x8000_0000) h) tt

@@ -77,32 +77,25 @@ fn env(mode: TexEnvMode, color: Rgba, frag: Rgba, tex: Rgba) -> Rgba
 }
 
 // One stage's environment, on the colour that the stage before it left.
+#[tactic(auto, unfolding(crate::specs::Fragment::tex_env_of))]
 pub fn apply_tex_env(stage: TextureStage, frag: Rgba, tex: Rgba) -> Rgba
     ensures { result ≡ tex_env_of stage frag tex }
 {
-    let mode = stage.env;
-    let color = stage.env_color;
-    env(mode, color, frag, tex)
+    env(stage.env, stage.env_color, frag, tex)
 }
 
+#[tactic(auto, unfolding(crate::specs::Fragment::depth_passes))]
 pub fn depth_passes(s: PipelineState, z: f32, stored: f32) -> bool
     ensures { result ≡ depth_passes s z stored }
 {
-    if s.depth_test {
-        let f = s.depth_func;
-        return f.test(z, stored);
-    }
-    true
+    !s.depth_test || s.depth_func.test(z, stored)
 }
 
+#[tactic(auto, unfolding(crate::specs::Fragment::alpha_passes))]
 pub fn alpha_passes(s: PipelineState, alpha: f32) -> bool
     ensures { result ≡ alpha_passes s alpha }
 {
-    if s.alpha_test {
-        let f = s.alpha_func;
-        return f.test(alpha, s.alpha_ref);
-    }
-    true
+    !s.alpha_test || s.alpha_func.test(alpha, s.alpha_ref)
 }
 
 fn linear_fog(start: f32, end: f32, depth: f32) -> f32
@@ -133,15 +126,15 @@ fn fog_mix(f: f32, color: Rgba, c: Rgba) -> Rgba
     }
 }
 
+#[tactic(auto, unfolding(crate::specs::Fragment::fogged_of))]
 pub fn fogged(s: PipelineState, depth: f32, frag: Rgba) -> Rgba
     ensures { result ≡ fogged_of s depth frag }
 {
     if s.fog {
-        let f = fog_factor(s, depth);
-        let color = s.fog_color;
-        return fog_mix(f, color, frag);
+        fog_mix(fog_factor(s, depth), s.fog_color, frag)
+    } else {
+        frag
     }
-    frag
 }
 
 fn blend_channel(src: f32, sf: f32, dst: f32, df: f32) -> f32

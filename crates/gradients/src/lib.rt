@@ -5,14 +5,14 @@ ghost use Rattle.std.specs.Prelude.{◌≡◌};
 ghost use Rattle.gradients.specs.Gradients.{sum_of, perspective_sum, slopes_x, slopes_y, derivatives_of, slope_of, attribute_of};
 
 // A number for each corner of a triangle.
-#[derive(Clone, Copy)]
+#[derive(Clone, Copy, Debug, PartialEq)]
 pub struct PerCorner {
     pub a: f32,
     pub b: f32,
     pub c: f32,
 }
 
-#[derive(Clone, Copy)]
+#[derive(Clone, Copy, Debug, PartialEq)]
 pub struct TriangleDerivatives {
     pub inv_w: PerCorner,
     pub barycentric_dx: PerCorner,
@@ -22,7 +22,7 @@ pub struct TriangleDerivatives {
 }
 
 // An attribute at a pixel, and its slopes across and down the screen.
-#[derive(Clone, Copy)]
+#[derive(Clone, Copy, Debug, PartialEq)]
 pub struct Attribute {
     pub value: f32,
     pub dx: f32,
@@ -42,6 +42,7 @@ pub fn perspective_sum(w: PerCorner, inv_w: PerCorner, v: PerCorner) -> f32
     w.a * inv_w.a * v.a + w.b * inv_w.b * v.b + w.c * inv_w.c * v.c
 }
 
+#[tactic(auto, unfolding(crate::specs::Gradients::slopes_x))]
 fn barycentric_dx(y: PerCorner, inv_area: f32) -> PerCorner
     ensures { result ≡ slopes_x y inv_area }
 {
@@ -52,6 +53,7 @@ fn barycentric_dx(y: PerCorner, inv_area: f32) -> PerCorner
     }
 }
 
+#[tactic(auto, unfolding(crate::specs::Gradients::slopes_y))]
 fn barycentric_dy(x: PerCorner, inv_area: f32) -> PerCorner
     ensures { result ≡ slopes_y x inv_area }
 {
@@ -63,6 +65,7 @@ fn barycentric_dy(x: PerCorner, inv_area: f32) -> PerCorner
 }
 
 // The corners' screen x and y, their 1/w, and 1/area.
+#[tactic(auto, unfolding(crate::specs::Gradients::derivatives_of))]
 pub fn derivatives(
     x: PerCorner,
     y: PerCorner,
@@ -82,6 +85,7 @@ pub fn derivatives(
     }
 }
 
+#[tactic(auto, unfolding(crate::specs::Gradients::slope_of))]
 fn slope(numerator: f32, value: f32, dq: f32, reciprocal_q: f32) -> f32
     ensures { result ≡ slope_of numerator value dq reciprocal_q }
 {

@@ -1,8 +1,7 @@
 -- draw_triangle as a call of a guest, on the shared state. What it does is draw_of, the definition that its contract cites, on the
 -- records named, as last left. Beside it stands what it reads and writes, as document 01 lists it.
-use Rattle.std.specs.Prelude.{◌≡◌, Bool, true, false, cond, List, ℕ, eqb, length, get_or, Float}
+use Rattle.std.specs.Prelude.{◌≡◌, Bool, true, false, cond, List, ℕ, eqb, length, get_or, Float, Option}
 use Rattle.lists.specs.Lists.{tab}
-use Rattle.settings.specs.declared.Scissor.{Scissor}
 use Rattle.levels.specs.declared.Texture.{Texture}
 use Rattle.scissor.specs.Scissor.{pixel_in}
 use Rattle.isolation.specs.Machine.{Act, In}
@@ -17,13 +16,14 @@ use Rattle.draw.specs.Draw.{DrawArgs, bound_to, draw_check, draw_of}
 use Rattle.draw_reads.specs.Items.{Item, draw_items, items_work}
 use Rattle.guests.specs.Calls.{Shared}
 use Rattle.guests.specs.Draws.{Draws, in_scissor}
+use Rattle.settings.specs.declared.ScissorBox.{ScissorBox}
 
 -- A draw as a guest makes it. units: the names of the four units' textures.
 pub record DrawCall : Type 0 where
   pub args : DrawArgs
   pub units : List ℕ
 
-abbrev pub scissor_of : DrawCall → Scissor
+abbrev pub scissor_of : DrawCall → Option ScissorBox
 scissor_of x = x.args.state.scissor
 
 -- the name of unit u's texture

@@ -1,4 +1,5 @@
 -- The two clears keep the laws of a call: what they leave at a pixel hangs on that pixel and the sizes. Assumes nothing.
+use Rattle.std.specs.Prelude.{Option}
 use mathlib.Core.Path.{◌≡◌, refl, sym, ◌∙◌, subst}
 use mathlib.Core.Logic.{inl, inr}
 use mathlib.Core.Bool.{Bool, true, false, cond, not, true≢false}
@@ -10,7 +11,6 @@ use lib.Dec.{eqb}
 use lib.ListN.{length, get_or, get_or-eq_default}
 use lib.Ieee.{Float, nan}
 use Rattle.lists.proofs.Tables.{length_tab, get_or_tab}
-use Rattle.settings.specs.declared.Scissor.{Scissor}
 use Rattle.settings.specs.declared.ScissorBox.{ScissorBox}
 use Rattle.scissor.specs.Scissor.{pixel_in}
 use Rattle.scissor.specs.Check.{target_fits}
@@ -27,7 +27,7 @@ use Rattle.guests.proofs.Choices.{chosen, left, same, neither, JustSizes}
 
 -- ---- what a clear leaves at an index
 
-module _ {A : Type 0} (k : ℕ) (v : ℕ → A) (z : A) (width height : ℕ) (b : Scissor) where
+module _ {A : Type 0} (k : ℕ) (v : ℕ → A) (z : A) (width height : ℕ) (b : Option ScissorBox) where
   pub length_cleared : (l : List A) → length (cleared_of k v z width height b l) ≡ length l
   unfolding cleared_of
   length_cleared l = length_tab _ (length l)
@@ -56,29 +56,29 @@ module _ {A : Type 0} (k : ℕ) (v : ℕ → A) (z : A) (width height : ℕ) (b 
 -- ---- a clear past its checks
 
 -- it uses the pixels of its box
-abbrev WipeReads : Scissor → Shared → Place → Type 0
+abbrev WipeReads : Option ScissorBox → Shared → Place → Type 0
 WipeReads b s sizes = Unit {0}
 WipeReads b s (pixel p) = pixel_in s.width s.height b p ≡ true
 WipeReads b s (byte a) = ⊥
 WipeReads b s (texture n) = ⊥
 
-abbrev wipe_writes : Scissor → Shared → Place → Bool
+abbrev wipe_writes : Option ScissorBox → Shared → Place → Bool
 wipe_writes b s sizes = false
 wipe_writes b s (pixel p) = pixel_in s.width s.height b p
 wipe_writes b s (byte a) = false
 wipe_writes b s (texture n) = false
 
-abbrev wipe : Scissor → (Shared → Shared) → Act Shared Answer Place
+abbrev wipe : Option ScissorBox → (Shared → Shared) → Act Shared Answer Place
 wipe b f = record { does = λ s. (done, f s); Reads = WipeReads b; writes = wipe_writes b }
 
 -- what it takes for such a clear to keep the laws
-record Wipes (b : Scissor) (f : Shared → Shared) : Type 0 where
+record Wipes (b : Option ScissorBox) (f : Shared → Shared) : Type 0 where
   sizes_stay : (s : Shared) → SameSizes s (f s)
   rest_stays : (s : Shared) → ((f s).store ≡ s.store) × ((f s).textures ≡ s.textures)
   out_stays : (s : Shared) (p : ℕ) → pixel_in s.width s.height b p ≡ false → Same (pixel p) s (f s)
   in_same : (s t : Shared) (p : ℕ) → SameSizes s t → Same (pixel p) s t → pixel_in s.width s.height b p ≡ true → Same (pixel p) (f s) (f t)
 
-wipe_kept : (B : Shared → Type 0) (Q : Shared → ℕ → Type 0) (b : Scissor) (f : Shared → Shared) → Wipes b f
+wipe_kept : (B : Shared → Type 0) (Q : Shared → ℕ → Type 0) (b : Option ScissorBox) (f : Shared → Shared) → Wipes b f
     → ((s : Shared) (p : ℕ) → B s → pixel_in s.width s.height b p ≡ true → Q s p) → KeptOn B Q (wipe b f)
 wipe_kept B Q b f w good = record { laws = record { alike_on = alike; frame_on = frame }; keeps = λ s. refl; stays = λ s p k u. (refl, good s p k (stay s p u)) }
   where
@@ -107,10 +107,10 @@ wipe_kept B Q b f w good = record { laws = record { alike_on = alike; frame_on =
     frame s (byte a) k e = rw (w.rest_stays s).0
     frame s (texture n) k e = rw (w.rest_stays s).1
 
-abbrev colored : Scissor → List ℕ → Shared → Shared
+abbrev colored : Option ScissorBox → List ℕ → Shared → Shared
 colored b rgba s = with_colors s (cleared_of 4 (λ c. get_or rgba c 0) 0 s.width s.height b s.colors)
 
-wipes_colors : (b : Scissor) (rgba : List ℕ) → Wipes b (colored b rgba)
+wipes_colors : (b : Option ScissorBox) (rgba : List ℕ) → Wipes b (colored b rgba)
 wipes_colors b rgba = record {
   sizes_stay = λ s. record { same_width = refl; same_height = refl; same_depths = refl; same_store = refl; same_colors = sym (length_cleared 4 (λ c. get_or rgba c 0) 0 s.width s.height b s.colors) };
   rest_stays = λ s. (refl, refl);
@@ -122,10 +122,10 @@ wipes_colors b rgba = record {
       (at_depth _ _ _ _ p k);
 }
 
-abbrev deepened : Scissor → Float → Shared → Shared
+abbrev deepened : Option ScissorBox → Float → Shared → Shared
 deepened b v s = with_depths s (cleared_of 1 (λ c. v) nan s.width s.height b s.depths)
 
-wipes_depths : (b : Scissor) (v : Float) → Wipes b (deepened b v)
+wipes_depths : (b : Option ScissorBox) (v : Float) → Wipes b (deepened b v)
 wipes_depths b v = record {
   sizes_stay = λ s. record { same_width = refl; same_height = refl; same_colors = refl; same_store = refl; same_depths = sym (length_cleared 1 (λ c. v) nan s.width s.height b s.depths) };
   rest_stays = λ s. (refl, refl);
@@ -144,7 +144,7 @@ fits_of true rest e = refl
 fits_of false rest e = absurd (true≢false (sym e))
 
 -- a check in front of a clear, and the footprints of the whole
-check_reads : (number : Shared → ℕ) (b : Scissor) (f : Shared → Shared) (s : Shared) (l : Place)
+check_reads : (number : Shared → ℕ) (b : Option ScissorBox) (f : Shared → Shared) (s : Shared) (l : Place)
     → (check number JustSizes refused (wipe b f)).Reads s l → BoxReads (number s) b s l
 check_reads number b f s sizes r = tt
 check_reads number b f s (pixel p) (inl r) = absurd r
@@ -154,14 +154,14 @@ check_reads number b f s (byte a) (inr r) = r.1
 check_reads number b f s (texture n) (inl r) = r
 check_reads number b f s (texture n) (inr r) = r.1
 
-check_writes : (number : Shared → ℕ) (b : Scissor) (f : Shared → Shared) (s : Shared) (l : Place)
+check_writes : (number : Shared → ℕ) (b : Option ScissorBox) (f : Shared → Shared) (s : Shared) (l : Place)
     → (check number JustSizes refused (wipe b f)).writes s l ≡ box_writes (number s) b s l
 check_writes number b f s sizes = neither (eqb (number s) 0)
 check_writes number b f s (pixel p) = refl
 check_writes number b f s (byte a) = neither (eqb (number s) 0)
 check_writes number b f s (texture n) = neither (eqb (number s) 0)
 
-module _ {Draw : Type 0} (drawing : Draw → Act Shared Answer Place) (scissor_of : Draw → Scissor) (window : Guest → ScissorBox) where
+module _ {Draw : Type 0} (drawing : Draw → Act Shared Answer Place) (scissor_of : Draw → Option ScissorBox) (window : Guest → ScissorBox) where
   abbrev act : Call Draw → Act Shared Answer Place
   act = meaning drawing scissor_of
 
@@ -169,7 +169,7 @@ module _ {Draw : Type 0} (drawing : Draw → Act Shared Answer Place) (scissor_o
   Owes = Owed act (InBox drawing scissor_of) (InWindow window) bad_target
 
   -- a call that refuses by `number`, does f otherwise, and uses its box
-  clear_owed : (c : Call Draw) (b : Scissor) (number : Shared → ℕ) (f : Shared → Shared) → Wipes b f
+  clear_owed : (c : Call Draw) (b : Option ScissorBox) (number : Shared → ℕ) (f : Shared → Shared) → Wipes b f
       → ((s t : Shared) → SameSizes s t → number s ≡ number t)
       → ((s : Shared) → eqb (number s) 0 ≡ true → bad_target s.width s.height (length s.colors) (length s.depths) ≡ false)
       → ((w h p : ℕ) → pixel_in w h b p ≡ true → InBox drawing scissor_of w h c p)
@@ -186,7 +186,7 @@ module _ {Draw : Type 0} (drawing : Draw → Act Shared Answer Place) (scissor_o
       (λ s l. check_writes number b f s l ∙ writes s l)
       (λ s p r. inr (back s p r))
 
-  pub clear_color_owed : (b : Scissor) (rgba : List ℕ) → Owes (clear_color b rgba)
+  pub clear_color_owed : (b : Option ScissorBox) (rgba : List ℕ) → Owes (clear_color b rgba)
   clear_color_owed b rgba = clear_owed (clear_color b rgba) b (clear_color_number b) (colored b rgba) (wipes_colors b rgba)
       (λ s t z. rw (z.same_width, z.same_height, z.same_colors, z.same_depths))
       (λ s e. unfold clear_color_check in fits_of (target_fits s.width s.height (length s.colors) (length s.depths)) _ e)
@@ -198,7 +198,7 @@ module _ {Draw : Type 0} (drawing : Draw → Act Shared Answer Place) (scissor_o
       leaves s true = refl
       leaves s false = refl
 
-  pub clear_depth_owed : (b : Scissor) (v : Float) → Owes (clear_depth b v)
+  pub clear_depth_owed : (b : Option ScissorBox) (v : Float) → Owes (clear_depth b v)
   clear_depth_owed b v = clear_owed (clear_depth b v) b (clear_depth_number b v) (deepened b v) (wipes_depths b v)
       (λ s t z. rw (z.same_width, z.same_height, z.same_colors, z.same_depths))
       (λ s e. unfold clear_depth_check in fits_of (target_fits s.width s.height (length s.colors) (length s.depths)) _ e)

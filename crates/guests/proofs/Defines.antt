@@ -1,5 +1,6 @@
 -- Defining a level keeps the laws of a call: 9 looks at the arguments alone, the rest hangs on the texture's record and the sizes.
 -- Assumes nothing.
+use Rattle.std.specs.Prelude.{Option}
 use mathlib.Core.Path.{◌≡◌, refl, sym, ap, ◌∙◌}
 use mathlib.Core.Logic.{inl, inr}
 use mathlib.Core.Bool.{Bool, true, false, cond}
@@ -8,7 +9,6 @@ use Prim.Native.Nat.{ℕ}
 use lib.Dec.{eqb, ltb}
 use lib.ListN.{length}
 use borrow.Author.Tests.{eqb-true}
-use Rattle.settings.specs.declared.Scissor.{Scissor}
 use Rattle.settings.specs.declared.ScissorBox.{ScissorBox}
 use Rattle.levels.specs.declared.Texture.{Texture}
 use Rattle.levels.specs.Levels.{level_at}
@@ -111,7 +111,7 @@ module _ (n k w h place : ℕ) (rgba : List ℕ) where
           (λ i. (a i, sym (put_back s n) i))
           ∙ ap (λ (q : Outcome). (answer_of q.answer, with_texture s n q.texture q.store)) (sym (define_refused s.store (s.textures n) k w h place rgba e))
 
-  module _ {Draw : Type 0} (drawing : Draw → Act Shared Answer Place) (scissor_of : Draw → Scissor) (window : Guest → ScissorBox) where
+  module _ {Draw : Type 0} (drawing : Draw → Act Shared Answer Place) (scissor_of : Draw → Option ScissorBox) (window : Guest → ScissorBox) where
     pub define_level_owed : Owed (meaning drawing scissor_of) (InBox drawing scissor_of) (InWindow window) bad_target (define_level n k w h place rgba)
     define_level_owed =
         owed_by (meaning drawing scissor_of) (InBox drawing scissor_of) (InWindow window) bad_target (define_level n k w h place rgba) whole

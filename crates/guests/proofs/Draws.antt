@@ -1,4 +1,5 @@
 -- A draw in parts owes what every call owes: its fragments' law and their box are all that is left to show of a draw. Assumes nothing.
+use Rattle.std.specs.Prelude.{Option, Some, None}
 use mathlib.Core.Path.{◌≡◌, refl, sym, ap, ◌∙◌, subst}
 use mathlib.Core.Logic.{inl, inr}
 use mathlib.Core.Bool.{Bool, true, false, cond, not, ◌&&◌}
@@ -9,8 +10,6 @@ use lib.Arith.{digits_div, digits_mod}
 use lib.Dec.{eqb, ltb}
 use lib.ListN.{length}
 use borrow.Author.Tests.{ltb-true}
-use Rattle.settings.specs.declared.Scissor.{Scissor}
-use Rattle.settings.specs.declared.Scissor.TheVariants.{Whole, Within}
 use Rattle.settings.specs.declared.ScissorBox.{ScissorBox}
 use Rattle.scissor.specs.Scissor.{in_box, pixel_in, bounds_of, in_bounds}
 use Rattle.scissor.specs.Check.{target_fits}
@@ -27,18 +26,18 @@ use Rattle.guests.proofs.Choices.{same, neither, JustSizes}
 
 -- ---- a pixel in a box is one of the target
 
-on_target : (width height : ℕ) (b : Scissor) (p : ℕ) → pixel_in width height b p ≡ true → (p % width < width) × (p / width < height)
+on_target : (width height : ℕ) (b : Option ScissorBox) (p : ℕ) → pixel_in width height b p ≡ true → (p % width < width) × (p / width < height)
 unfolding in_box
-on_target width height Whole p e =
+on_target width height None p e =
     let t = split (ltb (p % width) width) (ltb (p / width) height) e in (ltb-true _ _ t.0, ltb-true _ _ t.1)
-on_target width height (Within b) p e =
+on_target width height (Some b) p e =
     let t = split (ltb (p % width) width) (ltb (p / width) height) (split (ltb (p % width) width && ltb (p / width) height) _ e).0 in (ltb-true _ _ t.0, ltb-true _ _ t.1)
 
 below : (width height p : ℕ) → p % width < width → p / width < height → p < width * height
 below width height p a b = omega (arith, mod-add-div' p width, mul-le-mul_right width b, suc-mul (p / width) width, mul_comm width height)
 
 -- and so it has its bytes and its depth, where 1 takes the target
-pub room : (width height colors depths : ℕ) (b : Scissor) (p : ℕ) → target_fits width height colors depths ≡ true → pixel_in width height b p ≡ true
+pub room : (width height colors depths : ℕ) (b : Option ScissorBox) (p : ℕ) → target_fits width height colors depths ≡ true → pixel_in width height b p ≡ true
     → (p * 4 + 4 ≤ colors) × (p < depths)
 room width height colors depths b p t e =
     let o = on_target width height b p e in
@@ -47,12 +46,12 @@ room width height colors depths b p t e =
     (omega (arith, q.2), omega (arith, q.3))
 
 -- a column and a row in the cut box make a pixel in the box
-in_box_wide : (width height : ℕ) (b : Scissor) (x y : ℕ) → in_box width height b x y ≡ true → x < width
+in_box_wide : (width height : ℕ) (b : Option ScissorBox) (x y : ℕ) → in_box width height b x y ≡ true → x < width
 unfolding in_box
-in_box_wide width height Whole x y e = ltb-true x width (split (ltb x width) (ltb y height) e).0
-in_box_wide width height (Within b) x y e = ltb-true x width (split (ltb x width) (ltb y height) (split (ltb x width && ltb y height) _ e).0).0
+in_box_wide width height None x y e = ltb-true x width (split (ltb x width) (ltb y height) e).0
+in_box_wide width height (Some b) x y e = ltb-true x width (split (ltb x width) (ltb y height) (split (ltb x width && ltb y height) _ e).0).0
 
-pub pixel_is_in : (width height : ℕ) (b : Scissor) (x y : ℕ) → in_bounds (bounds_of width height b) x y ≡ true → pixel_in width height b (y * width + x) ≡ true
+pub pixel_is_in : (width height : ℕ) (b : Option ScissorBox) (x y : ℕ) → in_bounds (bounds_of width height b) x y ≡ true → pixel_in width height b (y * width + x) ≡ true
 pixel_is_in width height b x y e =
     let q : in_box width height b x y ≡ true = sym (bounds_are width height b x y) ∙ e in
     let k : x < width = in_box_wide width height b x y q in
@@ -110,14 +109,14 @@ module _ {Item C : Type 0} (d : Draws Item C) (laws : DrawLaws d) where
   writes s (texture n) = nothing (eqb (d.early s) 0) (eqb (d.late s) 0)
 
 -- THE DRAW: a draw whose parts keep their laws, and whose meaning is what its parts do, owes nothing more
-pub draw_owed : {Draw Item C : Type 0} (drawing : Draw → Act Shared Answer Place) (scissor_of : Draw → Scissor) (window : Guest → ScissorBox) (a : Draw) (d : Draws Item C)
+pub draw_owed : {Draw Item C : Type 0} (drawing : Draw → Act Shared Answer Place) (scissor_of : Draw → Option ScissorBox) (window : Guest → ScissorBox) (a : Draw) (d : Draws Item C)
     → DrawLaws d → d.scissor ≡ scissor_of a → ((s : Shared) → draw_does d s ≡ (drawing a).does s)
     → ((s : Shared) (l : Place) → DrawReads d s l → (drawing a).Reads s l) → ((s : Shared) (l : Place) → draw_writes d s l ≡ (drawing a).writes s l)
     → ((s : Shared) (p : ℕ) → (drawing a).Reads s (pixel p) → DrawReads d s (pixel p))
     → DrawOwes drawing scissor_of window a
 draw_owed drawing scissor_of window a d laws sc does rd wr back =
     owed_by (meaning drawing scissor_of) (InBox drawing scissor_of) (InWindow window) bad_target (draw a) (whole d laws)
-    (kept d laws _ (λ s p o e. (good s o.0.1, subst (λ (b : Scissor). pixel_in s.width s.height b p ≡ true) sc e)))
+    (kept d laws _ (λ s p o e. (good s o.0.1, subst (λ (b : Option ScissorBox). pixel_in s.width s.height b p ≡ true) sc e)))
     (λ s. ap (λ x. x.0) (does s)) (λ s l. same _ _ (ap (λ x. x.1) (does s)) l)
     (λ s l r. rd s l (reads d laws s l r)) (λ s l. writes d laws s l ∙ wr s l) (λ s p r. used s p (back s p r))
   where

@@ -1,4 +1,5 @@
 -- What the calls read and write is 01's list, no less and no more. Assumes nothing.
+use Rattle.std.specs.Prelude.{Option}
 use mathlib.Core.Path.{◌≡◌, refl, sym, ◌∙◌}
 use mathlib.Core.Bool.{true, false, true≢false}
 use mathlib.Core.List.{List}
@@ -7,7 +8,6 @@ use lib.Dec.{eqb}
 use lib.ListN.{length}
 use lib.Ieee.{Float}
 use borrow.Author.Tests.{eq-eqb}
-use Rattle.settings.specs.declared.Scissor.{Scissor}
 use Rattle.scissor.specs.Scissor.{pixel_in}
 use Rattle.levels.specs.Levels.{level_of}
 use Rattle.texture.specs.Define.{in_run, define_writes}
@@ -15,14 +15,15 @@ use Rattle.texture.specs.Patch.{in_rows, patch_writes}
 use Rattle.texture.specs.Parameters.{set_check}
 use Rattle.frames.specs.State.{Place, sizes, pixel, byte, texture}
 use Rattle.guests.specs.Calls.{Shared, clear_color_number, clear_depth_number, sides_check, define_number, patch_number, clear_color, clear_depth, define_level, patch_level, set_parameter}
+use Rattle.settings.specs.declared.ScissorBox.{ScissorBox}
 
 module _ (s : Shared) (n k x y w h place : ℕ) (rgba : List ℕ) where
   -- ---- what is not refused
 
-  pub clear_color_uses : (b : Scissor) (p : ℕ) → eqb (clear_color_number b s) 0 ≡ true → (clear_color b rgba).writes s (pixel p) ≡ pixel_in s.width s.height b p
+  pub clear_color_uses : (b : Option ScissorBox) (p : ℕ) → eqb (clear_color_number b s) 0 ≡ true → (clear_color b rgba).writes s (pixel p) ≡ pixel_in s.width s.height b p
   clear_color_uses b p e = rw e
 
-  pub clear_depth_uses : (b : Scissor) (v : Float) (p : ℕ) → eqb (clear_depth_number b v s) 0 ≡ true → (clear_depth b v).writes s (pixel p) ≡ pixel_in s.width s.height b p
+  pub clear_depth_uses : (b : Option ScissorBox) (v : Float) (p : ℕ) → eqb (clear_depth_number b v s) 0 ≡ true → (clear_depth b v).writes s (pixel p) ≡ pixel_in s.width s.height b p
   clear_depth_uses b v p e = rw e
 
   -- a define writes its texture and its level's bytes
@@ -59,13 +60,13 @@ module _ (s : Shared) (n k x y w h place : ℕ) (rgba : List ℕ) where
   pub define_unread : (m : ℕ) → eqb (sides_check k w h) 0 ≡ false → (define_level n k w h place rgba).Reads s (texture m) → ⊥
   define_unread m e r = true≢false (sym r.1 ∙ e)
 
-  pub clear_color_refused : (b : Scissor) (l : Place) → eqb (clear_color_number b s) 0 ≡ false → (clear_color b rgba).writes s l ≡ false
+  pub clear_color_refused : (b : Option ScissorBox) (l : Place) → eqb (clear_color_number b s) 0 ≡ false → (clear_color b rgba).writes s l ≡ false
   clear_color_refused b sizes e = refl
   clear_color_refused b (pixel p) e = rw e
   clear_color_refused b (byte a) e = refl
   clear_color_refused b (texture m) e = refl
 
-  pub clear_depth_refused : (b : Scissor) (v : Float) (l : Place) → eqb (clear_depth_number b v s) 0 ≡ false → (clear_depth b v).writes s l ≡ false
+  pub clear_depth_refused : (b : Option ScissorBox) (v : Float) (l : Place) → eqb (clear_depth_number b v s) 0 ≡ false → (clear_depth b v).writes s l ≡ false
   clear_depth_refused b v sizes e = refl
   clear_depth_refused b v (pixel p) e = rw e
   clear_depth_refused b v (byte a) e = refl

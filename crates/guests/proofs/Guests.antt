@@ -1,5 +1,5 @@
 -- The statement of specs/Guests.antt: what the five kinds of call owe is proved, what a draw owes is handed in. Assumes nothing.
-use Rattle.settings.specs.declared.Scissor.{Scissor}
+use Rattle.std.specs.Prelude.{Option}
 use Rattle.settings.specs.declared.ScissorBox.{ScissorBox}
 use Rattle.isolation.specs.Machine.{Act, Guest}
 use Rattle.frames.specs.State.{Place, Answer}
@@ -12,7 +12,7 @@ use Rattle.guests.proofs.Settings.{set_parameter_owed}
 use Rattle.guests.proofs.Defines.{define_level_owed}
 use Rattle.guests.proofs.Patches.{patch_level_owed}
 
-module _ {Draw : Type 0} (drawing : Draw → Act Shared Answer Place) (scissor_of : Draw → Scissor) (window : Guest → ScissorBox) where
+module _ {Draw : Type 0} (drawing : Draw → Act Shared Answer Place) (scissor_of : Draw → Option ScissorBox) (window : Guest → ScissorBox) where
   owed : ((d : Draw) → DrawOwes drawing scissor_of window d) → (c : Call Draw) → Owed (meaning drawing scissor_of) (InBox drawing scissor_of) (InWindow window) bad_target c
   owed h (clear_color b rgba) = clear_color_owed drawing scissor_of window b rgba
   owed h (clear_depth b v) = clear_depth_owed drawing scissor_of window b v

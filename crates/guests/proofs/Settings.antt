@@ -1,10 +1,10 @@
 -- Setting a parameter keeps the laws of a call: it hangs on its texture's record alone. Assumes nothing.
+use Rattle.std.specs.Prelude.{Option}
 use mathlib.Core.Path.{◌≡◌, refl, sym}
 use mathlib.Core.Logic.{inl, inr}
 use mathlib.Core.Bool.{Bool, true, false, cond, true≢false}
 use Prim.Native.Nat.{ℕ}
 use lib.Dec.{eqb}
-use Rattle.settings.specs.declared.Scissor.{Scissor}
 use Rattle.settings.specs.declared.ScissorBox.{ScissorBox}
 use Rattle.texture.specs.Parameters.{set_check, set_record, Setting, setting, set_of}
 use Rattle.isolation.specs.Machine.{Act, Guest}
@@ -63,7 +63,7 @@ module _ (n code value : ℕ) where
   stores : Stores n (λ t. set_record t code value) (λ t st. st) (λ t k a. false)
   stores = record { long = λ t st. refl; stay = λ t st a e. refl; alike = λ t st su a q e. absurd (true≢false (sym e)) }
 
-  module _ {Draw : Type 0} (drawing : Draw → Act Shared Answer Place) (scissor_of : Draw → Scissor) (window : Guest → ScissorBox) where
+  module _ {Draw : Type 0} (drawing : Draw → Act Shared Answer Place) (scissor_of : Draw → Option ScissorBox) (window : Guest → ScissorBox) where
     pub set_parameter_owed : Owed (meaning drawing scissor_of) (InBox drawing scissor_of) (InWindow window) bad_target (set_parameter n code value)
     set_parameter_owed =
         owed_by (meaning drawing scissor_of) (InBox drawing scissor_of) (InWindow window) bad_target (set_parameter n code value) whole

@@ -1,8 +1,7 @@
 -- The calls of document 01, "Demand 3 in full", on the shared state. What a call does is the definition that its operation's contract
 -- cites, on the texture's record as last left. Beside it stands what the call reads and writes, as 01 lists it; a refused call has
 -- read what was looked at before its refusal, and writes nothing. The sizes of target and store are looked at by every check.
-use Rattle.std.specs.Prelude.{◌≡◌, Bool, true, false, cond, List, ℕ, eqb, ltb, length, Float}
-use Rattle.settings.specs.declared.Scissor.{Scissor}
+use Rattle.std.specs.Prelude.{◌≡◌, Bool, true, false, cond, List, ℕ, eqb, ltb, length, Float, Option}
 use Rattle.levels.specs.declared.Texture.{Texture}
 use Rattle.scissor.specs.Scissor.{pixel_in}
 use Rattle.render_target.specs.Clear.{clear_color_check, clear_depth_check, clear_color_of, clear_depth_of}
@@ -11,6 +10,7 @@ use Rattle.texture.specs.Patch.{patch_check, patch_of, patch_writes}
 use Rattle.texture.specs.Parameters.{set_check, set_of}
 use Rattle.isolation.specs.Machine.{Act}
 use Rattle.frames.specs.State.{State, Place, sizes, pixel, byte, texture, Answer, done, refused}
+use Rattle.settings.specs.declared.ScissorBox.{ScissorBox}
 
 abbrev pub Shared : Type 0
 Shared = State Texture
@@ -39,33 +39,33 @@ with_texture s n t st = record {
 -- ---- Clears
 
 -- The check's number on a state.
-abbrev pub clear_color_number : Scissor → Shared → ℕ
+abbrev pub clear_color_number : Option ScissorBox → Shared → ℕ
 clear_color_number b s = clear_color_check s.width s.height (length s.colors) (length s.depths) b
 
-abbrev pub clear_depth_number : Scissor → Float → Shared → ℕ
+abbrev pub clear_depth_number : Option ScissorBox → Float → Shared → ℕ
 clear_depth_number b v s = clear_depth_check s.width s.height (length s.colors) (length s.depths) v b
 
 -- 01: the pixels of the scissor box, unless the call is refused. They are read too: a clear of the colours leaves a pixel's depth as it was.
-abbrev pub BoxReads : ℕ → Scissor → Shared → Place → Type 0
+abbrev pub BoxReads : ℕ → Option ScissorBox → Shared → Place → Type 0
 BoxReads number b s sizes = Unit {0}
 BoxReads number b s (pixel p) = (eqb number 0 ≡ true) × (pixel_in s.width s.height b p ≡ true)
 BoxReads number b s (byte a) = ⊥
 BoxReads number b s (texture n) = ⊥
 
-abbrev pub box_writes : ℕ → Scissor → Shared → Place → Bool
+abbrev pub box_writes : ℕ → Option ScissorBox → Shared → Place → Bool
 box_writes number b s sizes = false
 box_writes number b s (pixel p) = cond (eqb number 0) (pixel_in s.width s.height b p) false
 box_writes number b s (byte a) = false
 box_writes number b s (texture n) = false
 
-abbrev pub clear_color : Scissor → List ℕ → Act Shared Answer Place
+abbrev pub clear_color : Option ScissorBox → List ℕ → Act Shared Answer Place
 clear_color b rgba = record {
   does = λ s. (answer_of (clear_color_number b s), with_colors s (clear_color_of s.width s.height (length s.depths) rgba b s.colors));
   Reads = λ s. BoxReads (clear_color_number b s) b s;
   writes = λ s. box_writes (clear_color_number b s) b s;
 }
 
-abbrev pub clear_depth : Scissor → Float → Act Shared Answer Place
+abbrev pub clear_depth : Option ScissorBox → Float → Act Shared Answer Place
 clear_depth b v = record {
   does = λ s. (answer_of (clear_depth_number b v s), with_depths s (clear_depth_of s.width s.height (length s.colors) v b s.depths));
   Reads = λ s. BoxReads (clear_depth_number b v s) b s;

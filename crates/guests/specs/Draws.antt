@@ -1,6 +1,5 @@
 -- A draw in parts: its checks before 8, its checks from 8 on, and its fragments. What such a draw reads and writes is 01's list.
-use Rattle.std.specs.Prelude.{◌≡◌, Bool, true, false, cond, not, List, ℕ, eqb, length}
-use Rattle.settings.specs.declared.Scissor.{Scissor}
+use Rattle.std.specs.Prelude.{◌≡◌, Bool, true, false, cond, not, List, ℕ, eqb, length, Option}
 use Rattle.levels.specs.declared.Texture.{Texture}
 use Rattle.scissor.specs.Scissor.{pixel_in}
 use Rattle.scissor.specs.Check.{target_fits}
@@ -8,6 +7,7 @@ use Rattle.isolation.specs.Machine.{Act, In}
 use Rattle.frames.specs.State.{SameSizes, Place, sizes, pixel, byte, texture, Answer, refused}
 use Rattle.frames.specs.Fragments.{Canvas, Work, FragLocal, work_on, taken_by, paints}
 use Rattle.guests.specs.Calls.{Shared}
+use Rattle.settings.specs.declared.ScissorBox.{ScissorBox}
 
 -- early: the number of 1, 2, 3, 4, 7 and 6, in that order, or 0. late: the number of 8 and 5, or 0. names: the textures of the units
 -- that its stages name. scissor: that of its settings. canvas and work: its fragments (frames, specs/Fragments.antt).
@@ -15,7 +15,7 @@ pub record Draws (Item C : Type 0) : Type 0 where
   pub early : Shared → ℕ
   pub late : Shared → ℕ
   pub names : List ℕ
-  pub scissor : Scissor
+  pub scissor : Option ScissorBox
   pub canvas : Canvas C
   pub work : ℕ → ℕ → (ℕ → Texture) → Work Item C
 

@@ -1,7 +1,5 @@
 -- The list of calls, the guests' windows, and the statement: five kinds of call as 01 has them, and the draw as a parameter.
-use Rattle.std.specs.Prelude.{◌≡◌, Bool, true, not, List, ℕ, Float}
-use Rattle.settings.specs.declared.Scissor.{Scissor}
-use Rattle.settings.specs.declared.Scissor.TheVariants.{Within}
+use Rattle.std.specs.Prelude.{◌≡◌, Bool, true, not, List, ℕ, Float, Option, Some}
 use Rattle.settings.specs.declared.ScissorBox.{ScissorBox}
 use Rattle.scissor.specs.Scissor.{pixel_in}
 use Rattle.scissor.specs.Check.{target_fits}
@@ -13,8 +11,8 @@ use Rattle.guests.specs.Calls.{Shared}
 
 -- A call with its own arguments, image bytes included. A texture is known by a number. Draw: the arguments of a draw.
 pub data Call (Draw : Type 0) : Type 0 where
-  clear_color : Scissor → List ℕ → Call Draw
-  clear_depth : Scissor → Float → Call Draw
+  clear_color : Option ScissorBox → List ℕ → Call Draw
+  clear_depth : Option ScissorBox → Float → Call Draw
   draw : Draw → Call Draw
   define_level : ℕ → ℕ → ℕ → ℕ → ℕ → List ℕ → Call Draw
   patch_level : ℕ → ℕ → ℕ → ℕ → ℕ → ℕ → List ℕ → Call Draw
@@ -22,14 +20,14 @@ pub data Call (Draw : Type 0) : Type 0 where
 
 -- 01: a window is a box as a scissor is; its pixels are those of the target in it
 abbrev pub InWindow : (Guest → ScissorBox) → ℕ → ℕ → Guest → ℕ → Type 0
-InWindow window width height g p = pixel_in width height (Within (window g)) p ≡ true
+InWindow window width height g p = pixel_in width height (Some (window g)) p ≡ true
 
 -- 1 refuses the target
 abbrev pub bad_target : ℕ → ℕ → ℕ → ℕ → Bool
 bad_target width height colors depths = not (target_fits width height colors depths)
 
 -- drawing: what a draw means, by its definition. scissorOf: the scissor of its settings.
-module _ {Draw : Type 0} (drawing : Draw → Act Shared Answer Place) (scissor_of : Draw → Scissor) where
+module _ {Draw : Type 0} (drawing : Draw → Act Shared Answer Place) (scissor_of : Draw → Option ScissorBox) where
   abbrev pub meaning : Call Draw → Act Shared Answer Place
   meaning (clear_color b rgba) = Calls.clear_color b rgba
   meaning (clear_depth b v) = Calls.clear_depth b v
@@ -67,7 +65,7 @@ module _ {Draw : Type 0} (drawing : Draw → Act Shared Answer Place) (scissor_o
 abbrev pub no_drawing : ⊥ → Act Shared Answer Place
 no_drawing d = absurd d
 
-abbrev pub no_scissor : ⊥ → Scissor
+abbrev pub no_scissor : ⊥ → Option ScissorBox
 no_scissor d = absurd d
 
 -- Clears, defines, patches and settings, by any number of guests: the statement with no draw in the list.

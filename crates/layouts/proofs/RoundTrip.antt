@@ -9,6 +9,7 @@ use lib.Dec.{eqb}
 use lib.ListN.{length, get_or, length-append, get_or-append}
 use lib.Seq.{get_or-append-add, ext_get_or}
 use borrow.Author.Tests.{eq-eqb, eqb-true}
+use Rattle.std.proofs.Common.{Option, Some, None, Ok, is_some}
 use Rattle.lists.proofs.Choice.{true_false}
 use Rattle.lists.specs.Lists.{tab, flat}
 use Rattle.lists.proofs.Flats.{get_or_flat}
@@ -22,14 +23,10 @@ use Rattle.levels.specs.declared.Filter.{Filter}
 use Rattle.levels.specs.declared.Filter.TheVariants as mag
 use Rattle.levels.specs.declared.Wrap.{Wrap}
 use Rattle.levels.specs.declared.Wrap.TheVariants as wrap
-use Rattle.levels.specs.Levels.{absent, new_texture}
-use Rattle.texture.specs.declared.MinFilterCode.TheVariants as min-code
-use Rattle.texture.specs.declared.FilterCode.TheVariants as mag-code
-use Rattle.texture.specs.declared.WrapCode.TheVariants as wrap-code
-use Rattle.texture.specs.Parameters.{min_filter_of, filter_of, wrap_of}
-use Rattle.layouts.specs.declared.RecordRead.{RecordRead}
+use Rattle.levels.specs.Codes.{min_filter_of, filter_of, wrap_of, min_code, mag_code, wrap_code}
+use Rattle.levels.specs.Levels.{absent}
 use Rattle.layouts.specs.Words.{word, long}
-use Rattle.layouts.specs.Records.{read_level, codes_known, read_texture, read_of, level_bytes, level_bytes_at, min_code, mag_code, wrap_code, rest_bytes, record_bytes}
+use Rattle.layouts.specs.Records.{read_level, codes_known, read_texture, read_of, level_bytes, level_bytes_at, rest_bytes, record_bytes}
 
 -- ---- numbers
 
@@ -117,7 +114,7 @@ rest_top t h = long_digits t.max_mipmap_level h
 abbrev two : ℕ → ℕ
 two n = n % 256 + 256 * (n / 256 % 256) + 65536 * 0 + 16777216 * 0
 
-min_two : (f : MinFilter) → min_filter_of (two (min_code f)) ≡ min-code.Known f
+min_two : (f : MinFilter) → min_filter_of (two (min_code f)) ≡ Ok f
 unfolding min_filter_of
 min_two min.Nearest = refl
 min_two min.Linear = refl
@@ -126,30 +123,30 @@ min_two min.LinearMipmapNearest = refl
 min_two min.NearestMipmapLinear = refl
 min_two min.LinearMipmapLinear = refl
 
-mag_two : (f : Filter) → filter_of (two (mag_code f)) ≡ mag-code.Known f
+mag_two : (f : Filter) → filter_of (two (mag_code f)) ≡ Ok f
 unfolding filter_of
 mag_two mag.Nearest = refl
 mag_two mag.Linear = refl
 
-wrap_two : (w : Wrap) → wrap_of (two (wrap_code w)) ≡ wrap-code.Known w
+wrap_two : (w : Wrap) → wrap_of (two (wrap_code w)) ≡ Ok w
 unfolding wrap_of
 wrap_two wrap.Repeat = refl
 wrap_two wrap.ClampToEdge = refl
 
 module _ (t : Texture) where
-  min_rest : min_filter_of (word (rest_bytes t) 8) ≡ min-code.Known t.min_filter
+  min_rest : min_filter_of (word (rest_bytes t) 8) ≡ Ok t.min_filter
   unfolding word rest_bytes
   min_rest = min_two t.min_filter
 
-  mag_rest : filter_of (word (rest_bytes t) 12) ≡ mag-code.Known t.mag_filter
+  mag_rest : filter_of (word (rest_bytes t) 12) ≡ Ok t.mag_filter
   unfolding word rest_bytes
   mag_rest = mag_two t.mag_filter
 
-  wrap_s_rest : wrap_of (word (rest_bytes t) 16) ≡ wrap-code.Known t.wrap_s
+  wrap_s_rest : wrap_of (word (rest_bytes t) 16) ≡ Ok t.wrap_s
   unfolding word rest_bytes
   wrap_s_rest = wrap_two t.wrap_s
 
-  wrap_t_rest : wrap_of (word (rest_bytes t) 20) ≡ wrap-code.Known t.wrap_t
+  wrap_t_rest : wrap_of (word (rest_bytes t) 20) ≡ Ok t.wrap_t
   unfolding word rest_bytes
   wrap_t_rest = wrap_two t.wrap_t
 
@@ -227,16 +224,16 @@ module _ (t : Texture) where
   code_word : (q : ℕ) → word (record_bytes t) (220 + q) ≡ word (rest_bytes t) q
   code_word q = word_same (record_bytes t) (rest_bytes t) (220 + q) q (λ j k. rest_field q j)
 
-  min_back : min_filter_of (word (record_bytes t) 228) ≡ min-code.Known t.min_filter
+  min_back : min_filter_of (word (record_bytes t) 228) ≡ Ok t.min_filter
   min_back = ap min_filter_of (code_word 8) ∙ min_rest t
 
-  mag_back : filter_of (word (record_bytes t) 232) ≡ mag-code.Known t.mag_filter
+  mag_back : filter_of (word (record_bytes t) 232) ≡ Ok t.mag_filter
   mag_back = ap filter_of (code_word 12) ∙ mag_rest t
 
-  wrap_s_back : wrap_of (word (record_bytes t) 236) ≡ wrap-code.Known t.wrap_s
+  wrap_s_back : wrap_of (word (record_bytes t) 236) ≡ Ok t.wrap_s
   wrap_s_back = ap wrap_of (code_word 16) ∙ wrap_s_rest t
 
-  wrap_t_back : wrap_of (word (record_bytes t) 240) ≡ wrap-code.Known t.wrap_t
+  wrap_t_back : wrap_of (word (record_bytes t) 240) ≡ Ok t.wrap_t
   wrap_t_back = ap wrap_of (code_word 20) ∙ wrap_t_rest t
 
   codes_back : codes_known (record_bytes t) ≡ true
@@ -244,21 +241,26 @@ module _ (t : Texture) where
   codes_back = rw (min_back, mag_back, wrap_s_back, wrap_t_back)
 
 -- reading what was written gives the record
-pub write_read : (t : Texture) → Sized t → read_of (record_bytes t) ≡ record { known = true; texture = t }
+pub write_read : (t : Texture) → Sized t → read_of (record_bytes t) ≡ Some t
 unfolding read_of read_texture
 write_read t s =
     rw (eq-eqb (length (record_bytes t)) 244 (length_record t), codes_back t, levels_back t s, top_back t s, min_back t, mag_back t, wrap_s_back t, wrap_t_back t)
 
 -- a layout that holds a record has its length
-pub known_length : (b : List ℕ) → (read_of b).known ≡ true → length b ≡ 244
+pub known_length : (b : List ℕ) → is_some (read_of b) ≡ true → length b ≡ 244
 unfolding read_of
 known_length b e = here (eqb (length b) 244) refl e
   where
     here : (c : Bool) → eqb (length b) 244 ≡ c
-        → (cond {A = RecordRead} c (record { known = codes_known b; texture = read_texture b }) (record { known = false; texture = new_texture })).known ≡ true → length b ≡ 244
+        → is_some (cond {A = Option Texture} c (cond (codes_known b) (Some (read_texture b)) None) None) ≡ true → length b ≡ 244
     here true q e = eqb-true (length b) 244 q
     here false q e = absurd (true_false (sym e))
 
-pub known_texture : (b : List ℕ) → (read_of b).known ≡ true → read_texture b ≡ (read_of b).texture
+-- and it is the record as it stands there
+pub known_texture : (b : List ℕ) → is_some (read_of b) ≡ true → read_of b ≡ Some (read_texture b)
 unfolding read_of
-known_texture b e = rw (eq-eqb (length b) 244 (known_length b e)) refl
+known_texture b e = rw (eq-eqb (length b) 244 (known_length b e)) (here (codes_known b) (rw (eq-eqb (length b) 244 (known_length b e)) at e))
+  where
+    here : (c : Bool) → is_some (cond {A = Option Texture} c (Some (read_texture b)) None) ≡ true → cond c (Some (read_texture b)) None ≡ Some (read_texture b)
+    here true e = refl
+    here false e = absurd (true_false (sym e))

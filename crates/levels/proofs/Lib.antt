@@ -2,3 +2,4 @@ pub mod Chain
 pub mod Valid
 pub mod Lone
 pub mod Apart
+pub mod Told

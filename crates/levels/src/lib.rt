@@ -2,17 +2,20 @@
 // Anyone may hand in any record; `is_valid` tells which ones document 01 takes.
 #![tactic(auto)]
 
-ghost use Rattle.std.specs.Prelude.{◌≡◌, true, ◌+◌, ◌≤◌, ◌<◌, length, get_or, drop};
+ghost use Rattle.std.specs.Prelude.{◌≡◌, true, ◌+◌, ◌≤◌, ◌<◌, length, get_or, drop, false, MatchOption};
 ghost use Rattle.lists.specs.Lists.{any, all};
+ghost use Rattle.levels.specs.Codes.{min_filter_of, filter_of, wrap_of, min_code, mag_code, wrap_code};
 ghost use Rattle.levels.specs.Levels.{absent, levels_of, size_of, texels_of, new_texture, complete, half, single, follows, top_of, overlap, overlaps, apart, starts_at, end_of, ascending, fits, valid_levels, valid_of, Fits};
 
-#[derive(Clone, Copy)]
+use answers::Refusal;
+
+#[derive(Clone, Copy, Debug, PartialEq, Eq, Hash)]
 pub enum Filter {
     Nearest,
     Linear,
 }
 
-#[derive(Clone, Copy)]
+#[derive(Clone, Copy, Debug, PartialEq, Eq, Hash)]
 pub enum MinFilter {
     Nearest,
     Linear,
@@ -22,14 +25,105 @@ pub enum MinFilter {
     LinearMipmapLinear,
 }
 
-#[derive(Clone, Copy)]
+#[derive(Clone, Copy, Debug, PartialEq, Eq, Hash)]
 pub enum Wrap {
     Repeat,
     ClampToEdge,
 }
 
+// ---- the values' codes
+
+impl TryFrom<u32> for Filter {
+    type Error = Refusal;
+
+    ghost try_from_gives = { λ code r. r ≡ filter_of code };
+
+    #[tactic(auto, using(std::proofs::lemmas::Bool::Decides::nat_tests), unfolding(crate::specs::Codes::filter_of))]
+    fn try_from(code: u32) -> Result<Self, Refusal> {
+        match code {
+            consts::GL_NEAREST => Ok(Filter::Nearest),
+            consts::GL_LINEAR => Ok(Filter::Linear),
+            _ => Err(Refusal::Code),
+        }
+    }
+}
+
+impl TryFrom<u32> for MinFilter {
+    type Error = Refusal;
+
+    ghost try_from_gives = { λ code r. r ≡ min_filter_of code };
+
+    #[tactic(auto, using(std::proofs::lemmas::Bool::Decides::nat_tests), unfolding(crate::specs::Codes::min_filter_of))]
+    fn try_from(code: u32) -> Result<Self, Refusal> {
+        match code {
+            consts::GL_NEAREST => Ok(MinFilter::Nearest),
+            consts::GL_LINEAR => Ok(MinFilter::Linear),
+            consts::GL_NEAREST_MIPMAP_NEAREST => Ok(MinFilter::NearestMipmapNearest),
+            consts::GL_LINEAR_MIPMAP_NEAREST => Ok(MinFilter::LinearMipmapNearest),
+            consts::GL_NEAREST_MIPMAP_LINEAR => Ok(MinFilter::NearestMipmapLinear),
+            consts::GL_LINEAR_MIPMAP_LINEAR => Ok(MinFilter::LinearMipmapLinear),
+            _ => Err(Refusal::Code),
+        }
+    }
+}
+
+impl TryFrom<u32> for Wrap {
+    type Error = Refusal;
+
+    ghost try_from_gives = { λ code r. r ≡ wrap_of code };
+
+    #[tactic(auto, using(std::proofs::lemmas::Bool::Decides::nat_tests), unfolding(crate::specs::Codes::wrap_of))]
+    fn try_from(code: u32) -> Result<Self, Refusal> {
+        match code {
+            consts::GL_REPEAT => Ok(Wrap::Repeat),
+            consts::GL_CLAMP_TO_EDGE => Ok(Wrap::ClampToEdge),
+            _ => Err(Refusal::Code),
+        }
+    }
+}
+
+impl From<Filter> for u32 {
+    ghost from_gives = { λ f r. r ≡ mag_code f };
+
+    fn from(f: Filter) -> u32 {
+        match f {
+            Filter::Nearest => consts::GL_NEAREST,
+            Filter::Linear => consts::GL_LINEAR,
+        }
+    }
+}
+
+impl From<MinFilter> for u32 {
+    ghost from_gives = { λ f r. r ≡ min_code f };
+
+    fn from(f: MinFilter) -> u32 {
+        match f {
+            MinFilter::Nearest => consts::GL_NEAREST,
+            MinFilter::Linear => consts::GL_LINEAR,
+            MinFilter::NearestMipmapNearest => consts::GL_NEAREST_MIPMAP_NEAREST,
+            MinFilter::LinearMipmapNearest => consts::GL_LINEAR_MIPMAP_NEAREST,
+            MinFilter::NearestMipmapLinear => consts::GL_NEAREST_MIPMAP_LINEAR,
+            MinFilter::LinearMipmapLinear => consts::GL_LINEAR_MIPMAP_LINEAR,
+        }
+    }
+}
+
+impl From<Wrap> for u32 {
+    ghost from_gives = { λ w r. r ≡ wrap_code w };
+
+    fn from(w: Wrap) -> u32 {
+        match w {
+            Wrap::Repeat => consts::GL_REPEAT,
+            Wrap::ClampToEdge => consts::GL_CLAMP_TO_EDGE,
+        }
+    }
+}
+
+// ---- the record
+
 // `place` is the level's first byte in the store. The fields of an absent level are ignored, and so is level 0's flag.
-#[derive(Clone, Copy)]
+// Kept: the C interface hands an absent level's other numbers back as they came, and an Option would lose them. (1e)
+#[derive(Clone, Copy, Debug, PartialEq, Eq, Hash)]
 pub struct MipLevel {
     pub present: bool,
     pub place: usize,
@@ -37,7 +131,16 @@ pub struct MipLevel {
     pub height: u32,
 }
 
-#[derive(Clone, Copy)]
+impl MipLevel {
+    pub const ABSENT: MipLevel = MipLevel {
+        present: false,
+        place: 0,
+        width: 0,
+        height: 0,
+    };
+}
+
+#[derive(Clone, Copy, Debug, PartialEq, Eq, Hash)]
 pub struct Texture {
     pub levels: [MipLevel; 11],
     pub max_mipmap_level: usize,
@@ -49,24 +152,12 @@ pub struct Texture {
 
 impl Texture {
     // Level 0 is 0 by 0 at place 0.
+    #[tactic(auto, unfolding(crate::specs::Levels::new_texture, crate::specs::Levels::levels_of))]
     pub fn new() -> Self
         ensures { result ≡ new_texture }
     {
-        let none = MipLevel {
-            present: false,
-            place: 0,
-            width: 0,
-            height: 0,
-        };
-        let mut levels = [none; 11];
-        levels[0] = MipLevel {
-            present: true,
-            place: 0,
-            width: 0,
-            height: 0,
-        };
         Texture {
-            levels,
+            levels: kept_levels([MipLevel::ABSENT; 11]),
             max_mipmap_level: 0,
             min_filter: MinFilter::NearestMipmapLinear,
             mag_filter: Filter::Linear,
@@ -77,16 +168,11 @@ impl Texture {
 }
 
 // The levels with level 0's flag set: it is never absent.
+#[tactic(auto, unfolding(crate::specs::Levels::levels_of))]
 pub fn kept_levels(mut levels: [MipLevel; 11]) -> [MipLevel; 11]
     ensures { result ≡ levels_of levels }
 {
-    let first = levels[0];
-    levels[0] = MipLevel {
-        present: true,
-        place: first.place,
-        width: first.width,
-        height: first.height,
-    };
+    levels[0].present = true;
     levels
 }
 
@@ -107,6 +193,7 @@ pub fn size_of(m: MipLevel) -> usize
 }
 
 // The part of the store that holds a level.
+#[tactic(auto, unfolding(crate::specs::Levels::texels_of))]
 pub fn level_texels(store: &[u8], m: MipLevel) -> &[u8]
     requires { Fits (length store.now) m }
     ensures { result.now ≡ texels_of store.now m }
@@ -116,49 +203,34 @@ pub fn level_texels(store: &[u8], m: MipLevel) -> &[u8]
     &store[place..end]
 }
 
+// ---- the chain
+
+#[tactic(auto, using(std::proofs::lemmas::Bool::Decides::nat_tests), unfolding(crate::specs::Levels::complete))]
 pub fn is_complete(m: MipLevel) -> bool
     ensures { result ≡ complete m }
 {
-    if m.present {
-        if 0 < m.width {
-            return 0 < m.height;
-        }
-        return false;
-    }
-    false
+    m.present && 0 < m.width && 0 < m.height
 }
 
+#[tactic(auto, using(std::proofs::lemmas::Bool::Decides::nat_tests), unfolding(crate::specs::Levels::half))]
 fn halved(n: u32) -> u32
     ensures { result ≡ half n }
 {
-    if n < 2 {
-        return 1;
-    }
-    n / 2
+    if n < 2 { 1 } else { n / 2 }
 }
 
+#[tactic(auto, using(std::proofs::lemmas::Bool::Decides::nat_tests), unfolding(crate::specs::Levels::single))]
 fn is_single(w: u32, h: u32) -> bool
     ensures { result ≡ single w h }
 {
-    if w == 1 {
-        return h == 1;
-    }
-    false
+    w == 1 && h == 1
 }
 
+#[tactic(auto, using(std::proofs::lemmas::Bool::Decides::nat_tests), unfolding(crate::specs::Levels::follows))]
 fn does_follow(w: u32, h: u32, m: MipLevel) -> bool
     ensures { result ≡ follows w h m }
 {
-    if is_single(w, h) {
-        return false;
-    }
-    if is_complete(m) {
-        if m.width == halved(w) {
-            return m.height == halved(h);
-        }
-        return false;
-    }
-    false
+    !is_single(w, h) && is_complete(m) && m.width == halved(w) && m.height == halved(h)
 }
 
 // The top level of the chain.
@@ -169,176 +241,150 @@ pub fn calculate_max_complete_mipmap_level(levels: [MipLevel; 11]) -> usize
     if !is_complete(first) {
         return 0;
     }
-    let mut level: usize = 0;
     let mut width = first.width;
     let mut height = first.height;
-    let top = loop {
-        if 10 <= level {
-            break level;
-        }
+    for level in 0..10 {
         let next = levels[level + 1];
         if !does_follow(width, height, next) {
-            break level;
+            return level;
         }
         width = next.width;
         height = next.height;
-        level += 1;
-    };
-    top
+    }
+    10
 }
 
+// ---- validity
+
+#[tactic(auto, using(std::proofs::lemmas::Bool::Decides::nat_tests), unfolding(crate::specs::Levels::fits))]
 pub fn does_fit(m: MipLevel, len: usize) -> bool
     ensures { result ≡ fits len m }
 {
     if !m.present {
         return true;
     }
-    if 1024 < m.width {
-        return false;
-    }
-    if 1024 < m.height {
+    if 1024 < m.width || 1024 < m.height {
         return false;
     }
     let size = size_of(m);
-    if len < size {
-        return false;
-    }
-    if len - size < m.place {
-        return false;
-    }
-    true
-}
-
-fn all_fit(levels: [MipLevel; 11], len: usize) -> bool
-    ensures { result ≡ all (fits len) levels }
-{
-    for i in 0..11 {
-        let m = levels[i];
-        if !does_fit(m, len) {
-            return false;
-        }
-    }
-    true
+    size <= len && m.place <= len - size
 }
 
 // Whether n bytes at a and m bytes at b have a byte in common, where both runs end within a store of `len` bytes.
+#[tactic(auto, using(std::proofs::lemmas::Bool::Decides::nat_tests), unfolding(crate::specs::Levels::overlap))]
 fn do_overlap(a: usize, n: usize, b: usize, m: usize, len: usize) -> bool
     requires { (a + n ≤ len) × (b + m ≤ len) }
     ensures { result ≡ overlap a n b m }
 {
-    if n == 0 {
-        return false;
-    }
-    if m == 0 {
-        return false;
-    }
-    if b < a + n {
-        return a < b + m;
-    }
-    false
+    n != 0 && m != 0 && b < a + n && a < b + m
 }
 
+#[tactic(auto, unfolding(crate::specs::Levels::overlaps))]
 fn levels_overlap(a: MipLevel, b: MipLevel, len: usize) -> bool
     requires { (fits len a ≡ true) × (fits len b ≡ true) }
     ensures { result ≡ overlaps a b }
 {
-    if a.present {
-        if b.present {
-            return do_overlap(a.place, size_of(a), b.place, size_of(b), len);
-        }
-        return false;
-    }
-    false
+    a.present && b.present && do_overlap(a.place, size_of(a), b.place, size_of(b), len)
 }
 
-// Whether m overlaps a level from `from` on.
-pub fn any_overlap(levels: [MipLevel; 11], from: usize, m: MipLevel, len: usize) -> bool
-    requires { (from ≤ 11) × (fits len m ≡ true) × (all (fits len) levels ≡ true) }
-    ensures { result ≡ any (overlaps m) (drop from levels) }
-{
-    for i in from..11 {
-        let other = levels[i];
-        if levels_overlap(m, other, len) {
-            return true;
-        }
-    }
-    false
-}
-
-fn are_pairs_apart(levels: [MipLevel; 11], len: usize) -> bool
-    requires { all (fits len) levels ≡ true }
-    ensures { result ≡ apart levels }
-{
-    for i in 0..11 {
-        let m = levels[i];
-        if any_overlap(levels, i + 1, m, len) {
-            return false;
-        }
-    }
-    true
-}
-
+#[tactic(auto, using(std::proofs::lemmas::Bool::Decides::nat_tests), unfolding(crate::specs::Levels::starts_at))]
 fn does_start(m: MipLevel, end: usize) -> bool
     ensures { result ≡ starts_at end m }
 {
-    if is_complete(m) {
-        return end <= m.place;
-    }
-    true
+    !is_complete(m) || end <= m.place
 }
 
+#[tactic(auto, unfolding(crate::specs::Levels::end_of))]
 fn end_of(m: MipLevel, end: usize, len: usize) -> usize
     requires { fits len m ≡ true }
     ensures { result ≡ end_of end m }
 {
     if is_complete(m) {
-        return m.place + size_of(m);
+        m.place + size_of(m)
+    } else {
+        end
     }
-    end
 }
 
-// Whether each kept level with bytes starts where those before it have ended: the usual case, told in one pass.
-fn are_ascending(levels: [MipLevel; 11], len: usize) -> bool
-    requires { all (fits len) levels ≡ true }
-    ensures { result ≡ ascending 0 levels }
-{
-    let mut end: usize = 0;
-    for i in 0..11 {
-        let m = levels[i];
-        if !does_start(m, end) {
-            return false;
+// Levels that all lie within a store of `len` bytes.
+#[derive(Clone, Copy)]
+pub struct Stored {
+    pub levels: [MipLevel; 11],
+    pub len: usize,
+    ghost fit: { all (fits len) levels ≡ true },
+}
+
+impl Stored {
+    // The levels as stored, where they all fit.
+    fn new(levels: [MipLevel; 11], len: usize) -> Option<Self>
+        ensures { MatchOption result (all (fits len) levels ≡ false) (λ s. (s.levels ≡ levels) × (s.len ≡ len)) }
+    {
+        if levels.iter().all(|m| does_fit(*m, len)) {
+            Some(Stored { levels, len })
+        } else {
+            None
         }
-        end = end_of(m, end, len);
     }
-    true
+
+    // Whether m overlaps a level from `from` on.
+    pub fn any_overlap(self, from: usize, m: MipLevel) -> bool
+        requires { (from ≤ 11) × (fits self.len m ≡ true) }
+        ensures { result ≡ any (overlaps m) (drop from self.levels) }
+    {
+        for other in &self.levels[from..] {
+            if levels_overlap(m, *other, self.len) {
+                return true;
+            }
+        }
+        false
+    }
+
+    fn are_pairs_apart(self) -> bool
+        ensures { result ≡ apart self.levels }
+    {
+        for (i, m) in self.levels.iter().enumerate() {
+            if self.any_overlap(i + 1, *m) {
+                return false;
+            }
+        }
+        true
+    }
+
+    // Whether each kept level with bytes starts where those before it have ended: the usual case, told in one pass.
+    fn are_ascending(self) -> bool
+        ensures { result ≡ ascending 0 self.levels }
+    {
+        let mut end: usize = 0;
+        for m in &self.levels {
+            if !does_start(*m, end) {
+                return false;
+            }
+            end = end_of(*m, end, self.len);
+        }
+        true
+    }
+
+    fn are_apart(self) -> bool
+        ensures { result ≡ apart self.levels }
+    {
+        self.are_ascending() || self.are_pairs_apart()
+    }
 }
 
-fn are_apart(levels: [MipLevel; 11], len: usize) -> bool
-    requires { all (fits len) levels ≡ true }
-    ensures { result ≡ apart levels }
-{
-    if are_ascending(levels, len) {
-        return true;
-    }
-    are_pairs_apart(levels, len)
-}
-
+#[tactic(auto, unfolding(crate::specs::Levels::valid_levels))]
 fn are_valid(levels: [MipLevel; 11], top: usize, len: usize) -> bool
     ensures { result ≡ valid_levels len levels top }
 {
-    if !all_fit(levels, len) {
-        return false;
+    match Stored::new(levels, len) {
+        Some(stored) => stored.are_apart() && top == calculate_max_complete_mipmap_level(levels),
+        None => false,
     }
-    if !are_apart(levels, len) {
-        return false;
-    }
-    top == calculate_max_complete_mipmap_level(levels)
 }
 
 // Whether a record is one that document 01 takes, over a store of `len` bytes: refusal 8 where it is not.
+#[tactic(auto, unfolding(crate::specs::Levels::valid_of))]
 pub fn is_valid(texture: Texture, len: usize) -> bool
     ensures { result ≡ valid_of len texture }
 {
-    let levels = texture.levels;
-    are_valid(kept_levels(levels), texture.max_mipmap_level, len)
+    are_valid(kept_levels(texture.levels), texture.max_mipmap_level, len)
 }

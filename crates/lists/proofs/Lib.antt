@@ -9,3 +9,4 @@ pub mod Parts
 pub mod Stores
 pub mod Cells
 pub mod Flats
+pub mod Made

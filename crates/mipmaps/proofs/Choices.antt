@@ -6,9 +6,7 @@ use lib.Dec.{eqb}
 use lib.Ieee.{Float}
 use native.Mathlib.Omega.{arith}
 use borrow.Author.Tests.{eqb-false}
-use Rattle.lists.proofs.Choice.{true_false}
 use Rattle.levels.specs.declared.Filter.{Filter}
-use Rattle.levels.specs.declared.Filter.TheVariants as Texel
 use Rattle.levels.specs.declared.MinFilter.{MinFilter}
 use Rattle.detail.specs.Steps.{cut_of}
 use Rattle.detail.proofs.Cut.{cut_le}
@@ -17,20 +15,7 @@ use Rattle.mipmaps.specs.declared.Mipmap.TheVariants.{Off, NearestLevel, Between
 use Rattle.mipmaps.specs.declared.Chosen.{Chosen}
 use Rattle.mipmaps.specs.declared.Chosen.TheVariants.{One, Two}
 use Rattle.mipmaps.specs.declared.Coordinates.{Coordinates}
-use Rattle.mipmaps.specs.Mipmaps.{mipmap_filter, texel_filter, same_filter, between, minified, q_at, above_one, chosen_of, Within}
-
-same_is : (a b : Filter) → same_filter a b ≡ true → a ≡ b
-same_is Texel.Nearest Texel.Nearest e = refl
-same_is Texel.Nearest Texel.Linear e = absurd (true_false (sym e))
-same_is Texel.Linear Texel.Nearest e = absurd (true_false (sym e))
-same_is Texel.Linear Texel.Linear e = refl
-
-either_way : {A : Type 0} (b : Bool) (x : A) → x ≡ cond b x x
-either_way true x = refl
-either_way false x = refl
-
-pub same_choice : (b : Bool) (min mag : Filter) → same_filter min mag ≡ true → One 0 mag ≡ cond b (One 0 min) (One 0 mag)
-same_choice b min mag e = either_way b (One 0 mag) ∙ ap (λ (f : Filter). cond b (One 0 f) (One 0 mag)) (sym (same_is min mag e))
+use Rattle.mipmaps.specs.Mipmaps.{mipmap_filter, texel_filter, between, minified, q_at, above_one, chosen_of, Within}
 
 -- with no level above 0 the detail is 0
 at_nought : (m : Mipmap) (f : Filter) → minified m f 0 ≡ One 0 f

@@ -1,5 +1,5 @@
 -- Which levels a sample reads, and by which filter: from the record's filters and top level, level 0's sides and the gradients.
-use Rattle.std.specs.Prelude.{ℕ, ◌+◌, ◌≤◌, ◌<◌, Bool, true, false, cond, eqb, Float}
+use Rattle.std.specs.Prelude.{ℕ, ◌+◌, ◌≤◌, ◌<◌, Bool, cond, eqb, Float}
 use Rattle.std.specs.Float.Ieee as Ieee
 use Rattle.std.specs.Float.{binary64}
 use Rattle.levels.specs.declared.Filter.{Filter}
@@ -31,12 +31,6 @@ mipmap_filter Min.NearestMipmapNearest = NearestLevel
 mipmap_filter Min.LinearMipmapNearest = NearestLevel
 mipmap_filter Min.NearestMipmapLinear = Between
 mipmap_filter Min.LinearMipmapLinear = Between
-
-abbrev pub same_filter : Filter → Filter → Bool
-same_filter Texel.Nearest Texel.Nearest = true
-same_filter Texel.Nearest Texel.Linear = false
-same_filter Texel.Linear Texel.Nearest = false
-same_filter Texel.Linear Texel.Linear = true
 
 -- Document 01, Level of detail: between levels, n div 256 and the next, n mod 256 parts of 256 of the way; remainder 0 reads one level
 unfoldable pub between : Filter → ℕ → Chosen

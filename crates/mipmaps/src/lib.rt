@@ -2,9 +2,10 @@
 #![tactic(auto)]
 
 ghost use Rattle.std.specs.Prelude.{◌≡◌, cond, ◌*◌, ◌≤◌};
-ghost use Rattle.detail.specs.Steps.{Thresholds, cut_of};
-ghost use Rattle.mipmaps.specs.Mipmaps.{texel_filter, mipmap_filter, same_filter, between, minified, q_at, above_one, chosen_of};
+ghost use Rattle.detail.specs.Steps.{cut_of};
+ghost use Rattle.mipmaps.specs.Mipmaps.{texel_filter, mipmap_filter, between, minified, q_at, above_one, chosen_of};
 
+use detail::LevelTable;
 use levels::{Filter, MinFilter};
 
 // A texture coordinate and its gradients along x and y.
@@ -44,12 +45,11 @@ fn texel_filter(min: MinFilter) -> Filter
     ensures { result ≡ texel_filter min }
 {
     match min {
-        MinFilter::Nearest => Filter::Nearest,
-        MinFilter::Linear => Filter::Linear,
-        MinFilter::NearestMipmapNearest => Filter::Nearest,
-        MinFilter::LinearMipmapNearest => Filter::Linear,
-        MinFilter::NearestMipmapLinear => Filter::Nearest,
-        MinFilter::LinearMipmapLinear => Filter::Linear,
+        MinFilter::Nearest | MinFilter::NearestMipmapNearest | MinFilter::NearestMipmapLinear =>
+            Filter::Nearest,
+        MinFilter::Linear | MinFilter::LinearMipmapNearest | MinFilter::LinearMipmapLinear => {
+            Filter::Linear
+        }
     }
 }
 
@@ -57,27 +57,9 @@ fn mipmap_filter(min: MinFilter) -> Mipmap
     ensures { result ≡ mipmap_filter min }
 {
     match min {
-        MinFilter::Nearest => Mipmap::Off,
-        MinFilter::Linear => Mipmap::Off,
-        MinFilter::NearestMipmapNearest => Mipmap::NearestLevel,
-        MinFilter::LinearMipmapNearest => Mipmap::NearestLevel,
-        MinFilter::NearestMipmapLinear => Mipmap::Between,
-        MinFilter::LinearMipmapLinear => Mipmap::Between,
-    }
-}
-
-fn is_same(a: Filter, b: Filter) -> bool
-    ensures { result ≡ same_filter a b }
-{
-    match a {
-        Filter::Nearest => match b {
-            Filter::Nearest => true,
-            Filter::Linear => false,
-        },
-        Filter::Linear => match b {
-            Filter::Nearest => false,
-            Filter::Linear => true,
-        },
+        MinFilter::Nearest | MinFilter::Linear => Mipmap::Off,
+        MinFilter::NearestMipmapNearest | MinFilter::LinearMipmapNearest => Mipmap::NearestLevel,
+        MinFilter::NearestMipmapLinear | MinFilter::LinearMipmapLinear => Mipmap::Between,
     }
 }
 
@@ -91,13 +73,7 @@ fn q_at(width: u32, height: u32, p: Coordinates) -> f64
 fn level_zero(width: u32, height: u32, min: Filter, mag: Filter, p: Coordinates) -> Chosen
     ensures { result ≡ cond (above_one (q_at width height p)) (Chosen.One 0 min) (Chosen.One 0 mag) }
 {
-    if is_same(min, mag) {
-        return Chosen::One {
-            level: 0,
-            filter: mag,
-        };
-    }
-    if q_at(width, height, p) > 1.0 {
+    if min != mag && q_at(width, height, p) > 1.0 {
         return Chosen::One {
             level: 0,
             filter: min,
@@ -142,19 +118,18 @@ fn minified_levels(n: u64, mode: Mipmap, filter: Filter) -> Chosen
 
 // The levels where there is more than one, for a minifying filter that uses them.
 fn mipmapped(
-    table: &[f64; 128],
+    table: &LevelTable,
     q: f64,
     top: u64,
     mode: Mipmap,
     filter: Filter,
     mag: Filter,
 ) -> Chosen
-    requires thresholds { Thresholds table.now }
     requires top_in { top ≤ 10 }
     ensures { result ≡ cond (above_one q) (minified mode filter (cut_of q top)) (Chosen.One 0 mag) }
 {
     if q > 1.0 {
-        return minified_levels(detail::cut_steps(table, q, top), mode, filter);
+        return minified_levels(table.cut_steps(q, top), mode, filter);
     }
     Chosen::One {
         level: 0,
@@ -163,7 +138,7 @@ fn mipmapped(
 }
 
 pub fn chosen_levels(
-    table: &[f64; 128],
+    table: &LevelTable,
     width: u32,
     height: u32,
     top: usize,
@@ -171,7 +146,6 @@ pub fn chosen_levels(
     mag: Filter,
     p: Coordinates,
 ) -> Chosen
-    requires thresholds { Thresholds table.now }
     requires top_in { top ≤ 10 }
     ensures { result ≡ chosen_of width height top min mag p }
 {

@@ -3,6 +3,15 @@ use Rattle.std.specs.Prelude.{List, [], ◌∷◌, ◌≡◌, ℕ, ◌+◌, ◌-
 use Rattle.texels.specs.declared.Texel.{Texel}
 use Rattle.texels.specs.Image.{image}
 use Rattle.texels.specs.Texels.{texel_bytes, nth_texel}
+use Rattle.palette_images.specs.declared.IndexBits.{IndexBits}
+use Rattle.palette_images.specs.declared.IndexBits.TheVariants.{One, Two, Four, Eight}
+
+-- the widths of an index that divide a byte's
+abbrev pub index_bits : IndexBits → ℕ
+index_bits One = 1
+index_bits Two = 2
+index_bits Four = 4
+index_bits Eight = 8
 
 -- document 01, Corners, for OES_compressed_paletted_texture: a row starts on a whole byte
 abbrev pub row_bytes : ℕ → ℕ → ℕ

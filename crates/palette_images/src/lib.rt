@@ -1,94 +1,127 @@
 // Paletted images, over the width of an index and the kind of an entry (texture.rs, decode_paletted).
 #![tactic(auto)]
 
-ghost use Rattle.std.specs.Prelude.{◌≡◌, ◌+◌, ◌-◌, ◌*◌, ◌/◌, ◌%◌, ◌≤◌, ◌<◌, length};
+ghost use Rattle.std.specs.Prelude.{◌≡◌, ◌+◌, ◌*◌, ◌/◌, ◌%◌, ◌^◌, ◌≤◌, ◌<◌, length};
 ghost use Rattle.std.proofs.Math.Seq.{paste};
 ghost use Rattle.lists.specs.Lists.{flat};
 ghost use Rattle.texels.specs.Image.{image};
 ghost use Rattle.texels.specs.Texels.{texel_bytes};
-ghost use Rattle.palette_images.specs.Paletted.{row_bytes, paletted_bytes, index_in, paletted_image, Entries, entry, entry_at};
+ghost use Rattle.palette_images.specs.Paletted.{index_bits, row_bytes, palette_bytes, paletted_bytes, index_in, paletted_image, Entries, entry, entry_at};
 
 use texels::*;
+
+// How many bits an index has: as many as divide a byte's.
+#[derive(Clone, Copy, Debug, PartialEq, Eq, Hash)]
+pub enum IndexBits {
+    One,
+    Two,
+    Four,
+    Eight,
+}
 
 // The bytes of a row of indices.
 pub fn row_bytes(bits: usize, w: usize) -> usize
     requires { (bits ≤ 8) × (w ≤ 1024) }
     ensures { result ≡ row_bytes bits w }
 {
-    (w * bits + 7) / 8
+    (w * bits).div_ceil(8)
 }
 
-fn palette_of(t: Texel, s: &[u8], n: usize) -> [[u8; 4]; 256]
-    requires { (n ≤ 256) × (n * texel_bytes t ≤ length s.now) }
-    ensures { Entries t s.now n result }
-{
-    let bytes = texel_bytes(t);
-    let mut out = [[0u8; 4]; 256];
-    for i in 0..n {
-        let c = texel_at(t, s, i * bytes);
-        out[i] = c;
+impl IndexBits {
+    pub fn bits(self) -> usize
+        ensures { result ≡ index_bits self }
+    {
+        match self {
+            IndexBits::One => 1,
+            IndexBits::Two => 2,
+            IndexBits::Four => 4,
+            IndexBits::Eight => 8,
+        }
     }
-    out
-}
 
-// The first index of a byte has its highest bits.
-fn index_in(bits: usize, byte: u8, x: usize) -> usize
-    requires { (8 / bits * bits ≡ 8) × (x < 1024) }
-    ensures { (result ≡ index_in bits byte x) × (result < 256) }
-{
-    let low = 8 - bits - x * bits % 8;
-    ((wide(byte) >> low) % (1 << bits)) as usize
-}
+    // How many entries a palette has.
+    fn entries(self) -> usize
+        ensures { (result ≡ 2 ^ index_bits self) × (result ≤ 256) }
+    {
+        1 << self.bits()
+    }
 
-fn put_entry(table: &[[u8; 4]; 256], i: usize, out: &mut [u8], at: usize)
-    requires { (i < 256) × (at + 4 ≤ length out.old) }
-    ensures { out.new ≡ paste out.old at (entry table.now i) 4 }
-{
-    let c = table[i];
-    put4(out, at, [c[0], c[1], c[2], c[3]]);
-}
+    // The bytes of an image: its palette, then its rows.
+    pub fn image_bytes(self, t: Texel, sides: Sides) -> usize
+        ensures { result ≡ paletted_bytes (index_bits self) t sides.w sides.h }
+    {
+        self.entries() * t.bytes() + sides.h * row_bytes(self.bits(), sides.w)
+    }
 
-fn decode_row(
-    bits: usize,
-    table: &[[u8; 4]; 256],
-    s: &[u8],
-    at: usize,
-    out: &mut [u8],
-    to: usize,
-    w: usize,
-)
-    requires { (8 / bits * bits ≡ 8) × (w ≤ 1024) × (at + row_bytes bits w ≤ length s.now) × (to + w * 4 ≤ length out.old) }
-    ensures { out.new ≡ paste out.old to (flat w (entry_at bits table.now s.now at)) (w * 4) }
-{
-    for x in 0..w {
-        let i = index_in(bits, s[at + x * bits / 8], x);
-        put_entry(table, i, out, to + x * 4);
+    // The first index of a byte has its highest bits.
+    fn index_in(self, byte: u8, x: usize) -> usize
+        requires { x < 1024 }
+        ensures { (result ≡ index_in (index_bits self) byte x) × (result < 256) }
+    {
+        let bits = self.bits();
+        let low = 8 - bits - x * bits % 8;
+        ((u32::from(byte) >> low) % (1 << bits)) as usize
     }
 }
 
-fn decode_rows(
-    bits: usize,
-    table: &[[u8; 4]; 256],
-    s: &[u8],
-    start: usize,
-    out: &mut [u8],
-    w: usize,
-    h: usize,
-)
-    requires { (8 / bits * bits ≡ 8) × (w ≤ 1024) × (h ≤ 1024) × (start + h * row_bytes bits w ≤ length s.now) × (length out.old ≡ h * (w * 4)) }
-    ensures { out.new ≡ image w h (λ x y. entry_at bits table.now s.now (start + y * row_bytes bits w) x) }
-{
-    let row = row_bytes(bits, w);
-    for y in 0..h {
-        decode_row(bits, table, s, start + y * row, out, y * (w * 4), w);
+// A palette's entries decoded.
+#[derive(Drop)]
+struct Palette {
+    bits: IndexBits,
+    entries: [[u8; 4]; 256],
+}
+
+impl Palette {
+    // The palette in front of s.
+    fn new(bits: IndexBits, t: Texel, s: &[u8]) -> Palette
+        requires { palette_bytes (index_bits bits) t ≤ length s.now }
+        ensures bits { result.bits ≡ bits }
+        ensures entries { Entries t s.now (2 ^ index_bits bits) result.entries }
+    {
+        let bytes = t.bytes();
+        let mut entries = [[0u8; 4]; 256];
+        for i in 0..bits.entries() {
+            entries[i] = t.read(s, i * bytes);
+        }
+        Palette { bits, entries }
+    }
+
+    fn put(&self, i: usize, out: &mut [u8], at: usize)
+        requires { (i < 256) × (at + 4 ≤ length out.old) }
+        ensures { out.new ≡ paste out.old at (entry self.now.entries i) 4 }
+    {
+        let [r, g, b, a] = self.entries[i];
+        put4(out, at, [r, g, b, a]);
+    }
+
+    // A row of w texels, whose indices stand in s from `at` on.
+    fn put_row(&self, s: &[u8], at: usize, out: &mut [u8], to: usize, w: usize)
+        requires { (w ≤ 1024) × (at + row_bytes (index_bits self.now.bits) w ≤ length s.now) × (to + w * 4 ≤ length out.old) }
+        ensures { out.new ≡ paste out.old to (flat w (entry_at (index_bits self.now.bits) self.now.entries s.now at)) (w * 4) }
+    {
+        let bits = self.bits.bits();
+        for x in 0..w {
+            let i = self.bits.index_in(s[at + x * bits / 8], x);
+            self.put(i, out, to + x * 4);
+        }
+    }
+
+    // All rows, whose indices stand in s from `start` on.
+    fn put_rows(&self, s: &[u8], start: usize, out: &mut [u8], sides: Sides)
+        requires { (start + sides.h * row_bytes (index_bits self.now.bits) sides.w ≤ length s.now) × (length out.old ≡ sides.h * (sides.w * 4)) }
+        ensures { out.new ≡ image sides.w sides.h (λ x y. entry_at (index_bits self.now.bits) self.now.entries s.now (start + y * row_bytes (index_bits self.now.bits) sides.w) x) }
+    {
+        let row = row_bytes(self.bits.bits(), sides.w);
+        for y in 0..sides.h {
+            self.put_row(s, start + y * row, out, y * (sides.w * 4), sides.w);
+        }
     }
 }
 
-pub fn decode_paletted(bits: usize, t: Texel, s: &[u8], out: &mut [u8], w: usize, h: usize)
-    requires { (8 / bits * bits ≡ 8) × (w ≤ 1024) × (h ≤ 1024) × (paletted_bytes bits t w h ≤ length s.now) × (length out.old ≡ h * w * 4) }
-    ensures { out.new ≡ paletted_image bits t w h s.now }
+pub fn decode_paletted(bits: IndexBits, t: Texel, s: &[u8], out: &mut [u8], sides: Sides)
+    requires { (paletted_bytes (index_bits bits) t sides.w sides.h ≤ length s.now) × (length out.old ≡ sides.h * sides.w * 4) }
+    ensures { out.new ≡ paletted_image (index_bits bits) t sides.w sides.h s.now }
 {
-    let n = 1 << bits;
-    let table = palette_of(t, s, n);
-    decode_rows(bits, &table, s, n * texel_bytes(t), out, w, h);
+    let palette = Palette::new(bits, t, s);
+    palette.put_rows(s, bits.entries() * t.bytes(), out, sides);
 }

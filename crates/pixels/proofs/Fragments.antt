@@ -1,4 +1,5 @@
 -- The ways of a fragment: its depth fails, its 1/w is of no use, or it reaches the stages. Assumes nothing.
+use Rattle.std.specs.Prelude.{Some, None}
 use mathlib.Core.Path.{◌≡◌, refl, sym, ◌∙◌}
 use mathlib.Core.Bool.{Bool, true, false, cond, not}
 use mathlib.Core.List.{List, []}
@@ -7,16 +8,13 @@ use borrow.Author.Tests.{not-true, not-false}
 use lib.Ieee.{Float}
 use Rattle.lists.specs.Lists.{iter}
 use Rattle.lists.proofs.Choice.{stay, leave, true_false}
-use Rattle.levels.specs.declared.Texture.{Texture}
 use Rattle.settings.specs.declared.Rgba.{Rgba}
 use Rattle.settings.specs.declared.PipelineState.{PipelineState}
-use Rattle.settings.specs.declared.TextureStage.{TextureStage}
 use Rattle.fragment.specs.Fragment.{depth_passes, alpha_passes, fogged_of}
 use Rattle.gradients.specs.declared.PerCorner.{PerCorner}
 use Rattle.coverage.specs.declared.Primitive.{Primitive}
 use Rattle.coverage.specs.Coverage.{depth_at, inv_w_at, usable, color_of}
-use Rattle.stages.specs.Stages.{stage_at, texture_at, coordinates_of, stage_color, stage_step, stages_color}
-use Rattle.pixels.specs.declared.Fragment.TheVariants.{Dropped, Kept}
+use Rattle.stages.specs.Stages.{stages_color}
 use Rattle.pixels.specs.Way.{Drawing, drawing, reaches, shares, shaded_of, fog_depth_of, finished, fragment_of}
 
 -- a call gave the value of a test, and the code tests `!t`
@@ -25,12 +23,6 @@ was_not {t = t} e h = sym e ∙ not-true t h
 
 pub was_so : {t b : Bool} → t ≡ b → not t ≡ false → b ≡ true
 was_so {t = t} e h = sym e ∙ not-false t h
-
--- one stage in use is a step of its own
-pub one_stage : (store : List ℕ) (stages : List TextureStage) (n : ℕ) (xs : List Texture) (t : Primitive) (w : PerCorner) (rec : Float) (frag : Rgba) → n ≡ 1
-    → stage_color store (stage_at stages 0) (texture_at xs 0) (coordinates_of t w rec (stage_at stages 0).unit) frag ≡ stages_color store stages n xs t w rec frag
-unfolding stages_color iter stage_step
-one_stage store stages n xs t w rec frag e = rw e
 
 -- ---- without a stage
 
@@ -48,22 +40,22 @@ flat_is false false e h = (refl, refl)
 -- a flat colour needs no weights, and without fog no fog depth
 module _ (s : PipelineState) (t : Primitive) (w p : PerCorner) (z : Float) (c : Rgba) (k : c ≡ color_of false p t.a.color t.b.color t.c.color)
     (e : s.smooth_shading ≡ false) (f : s.fog ≡ false) {x : Bool} (a : x ≡ alpha_passes s c.a) where
-  flat_finished : cond (alpha_passes s c.a) (Kept z c) Dropped ≡ finished s z (fog_depth_of t w) (shaded_of [] (drawing s [] 0 []) t w)
+  flat_finished : cond (alpha_passes s c.a) (Some (z, c)) None ≡ finished s z (fog_depth_of t w) (shaded_of [] (drawing s [] 0 []) t w)
   unfolding finished fogged_of color_of
   flat_finished = rw (← unstaged s t w, k, e, f)
 
-  pub flat_dropped : not x ≡ true → Dropped ≡ finished s z (fog_depth_of t w) (shaded_of [] (drawing s [] 0 []) t w)
-  flat_dropped h = leave (Kept z c) a h refl ∙ flat_finished
+  pub flat_dropped : not x ≡ true → None ≡ finished s z (fog_depth_of t w) (shaded_of [] (drawing s [] 0 []) t w)
+  flat_dropped h = leave (Some (z, c)) a h refl ∙ flat_finished
 
-  pub flat_kept : not x ≡ false → Kept z c ≡ finished s z (fog_depth_of t w) (shaded_of [] (drawing s [] 0 []) t w)
-  flat_kept h = stay Dropped a h refl ∙ flat_finished
+  pub flat_kept : not x ≡ false → Some (z, c) ≡ finished s z (fog_depth_of t w) (shaded_of [] (drawing s [] 0 []) t w)
+  flat_kept h = stay None a h refl ∙ flat_finished
 
 module _ (store : List ℕ) (d : Drawing) (t : Primitive) (w : PerCorner) (stored : Float) where
-  pub depth_fails : depth_passes d.state (depth_at t.raster w) stored ≡ false → Dropped ≡ fragment_of store d t w stored
+  pub depth_fails : depth_passes d.state (depth_at t.raster w) stored ≡ false → None ≡ fragment_of store d t w stored
   unfolding fragment_of reaches
   depth_fails e = rw e
 
-  pub unusable : depth_passes d.state (depth_at t.raster w) stored ≡ true → usable (inv_w_at t.raster w) ≡ false → Dropped ≡ fragment_of store d t w stored
+  pub unusable : depth_passes d.state (depth_at t.raster w) stored ≡ true → usable (inv_w_at t.raster w) ≡ false → None ≡ fragment_of store d t w stored
   unfolding fragment_of reaches
   unusable e f = rw (e, f)
 

@@ -1,5 +1,6 @@
 -- The pixel's way: document 01, port order 7. Weights, depth test, 1/w, colour, stages in order, alpha test, fog, blend, masked colour, depth, count.
 use Rattle.std.specs.Prelude.{ℕ, ◌+◌, ◌*◌, Bool, false, cond, List, [], Float}
+use Rattle.std.specs.Prelude as Std
 use Rattle.std.proofs.Math.Option.{Option, none, some}
 use Rattle.floats.specs.Num.{◌⊘◌, one32}
 use Rattle.levels.specs.declared.Texture.{Texture}
@@ -14,8 +15,6 @@ use Rattle.frames.specs.Gather.{Drawn, Frag, put_pixel}
 use Rattle.coverage.specs.declared.Primitive.{Primitive}
 use Rattle.coverage.specs.Coverage.{weights_of, covered_by, depth_at, inv_w_at, usable, shares_of, color_of}
 use Rattle.stages.specs.Stages.{stages_color, stages_addresses}
-use Rattle.pixels.specs.declared.Fragment.{Fragment}
-use Rattle.pixels.specs.declared.Fragment.TheVariants.{Dropped, Kept}
 
 -- a draw's settings, its stages with their count, and the texture record that each stage reads
 pub record Drawing : Type 0 where
@@ -51,14 +50,14 @@ unfoldable pub fog_depth_of : Primitive → PerCorner → Float
 fog_depth_of t w = sum_of (shares t w) (per_corner t.a.fog_depth t.b.fog_depth t.c.fog_depth)
 
 -- past the stages: the alpha test, then fog
-unfoldable pub finished : PipelineState → Float → Float → Rgba → Fragment
-finished s z fogDepth c = cond (alpha_passes s c.a) (Kept z (fogged_of s fogDepth c)) Dropped
+unfoldable pub finished : PipelineState → Float → Float → Rgba → Std.Option (Float × Rgba)
+finished s z fogDepth c = cond (alpha_passes s c.a) (Std.Some (z, fogged_of s fogDepth c)) Std.None
 
-unfoldable pub fragment_of : List ℕ → Drawing → Primitive → PerCorner → Float → Fragment
+unfoldable pub fragment_of : List ℕ → Drawing → Primitive → PerCorner → Float → Std.Option (Float × Rgba)
 fragment_of store d t w stored =
     cond (reaches d.state t w stored)
     (finished d.state (depth_at t.raster w) (fog_depth_of t w) (shaded_of store d t w))
-    Dropped
+    Std.None
 
 -- ---- what a kept fragment leaves of its pixel
 
@@ -77,9 +76,9 @@ written_of s z c old =
       depth = cond s.depth_write z old.depth;
     }
 
-abbrev pub left_by : PipelineState → Fragment → Pixel → Option Pixel
-left_by s Dropped old = none
-left_by s (Kept z c) old = some (written_of s z c old)
+abbrev pub left_by : PipelineState → Std.Option (Float × Rgba) → Pixel → Option Pixel
+left_by s Std.None old = none
+left_by s (Std.Some (z, c)) old = some (written_of s z c old)
 
 -- ---- a pixel
 

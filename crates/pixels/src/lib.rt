@@ -1,25 +1,44 @@
 // The pixel's way (raster.rs, raster_clipped): weights, depth test, 1/w, colour, stages, alpha test, fog, blend, masked colour, depth, count.
 #![tactic(auto)]
 
-ghost use Rattle.std.specs.Prelude.{◌≡◌, ◌+◌, ◌*◌, ◌<◌, ◌≤◌, length, get_or, set, []};
-ghost use Rattle.detail.specs.Steps.{Thresholds};
+ghost use Rattle.std.specs.Prelude.{◌≡◌, ℕ, ◌+◌, ◌*◌, ◌<◌, ◌≤◌, List, [], length, get_or, set};
 ghost use Rattle.gradients.specs.Gradients.{sum_of, per_corner};
 ghost use Rattle.fragment.specs.Fragment.{blend_of, units_of};
 ghost use Rattle.frames.specs.State.{pixel_at};
 ghost use Rattle.frames.specs.Gather.{put_color};
-ghost use Rattle.stages.specs.Stages.{StagesFit};
-ghost use Rattle.pixels.specs.Way.{drawing, finished, fragment_of, written_of, pixel_of, drawn_to};
+ghost use Rattle.coverage.specs.declared.Primitive.{Primitive};
+ghost use Rattle.pixels.specs.Way.{Drawing, drawing, finished, fragment_of, written_of, pixel_of, drawn_to};
 
 use coverage::Primitive;
 use gradients::PerCorner;
-use levels::Texture;
-use settings::{BlendFactor, PipelineState, Rgba, TextureStage};
+use settings::{BlendFactor, PipelineState, Rgba};
+use stages::Stages;
 
-// What becomes of a pixel's fragment: it is dropped, or kept with its depth and colour.
-#[derive(Clone, Copy)]
-pub enum Fragment {
-    Dropped,
-    Kept(f32, Rgba),
+// What a draw does at a pixel. A draw without a stage carries no record and no texel along, and one of a single colour makes its bytes once.
+pub trait Paint {
+    // The store's bytes that it samples.
+    ghost store: { Self → List ℕ };
+
+    ghost drawing: { Self → Drawing };
+
+    // The triangles that it is made for.
+    ghost paints: { Self → Primitive → Type 0 };
+
+    // One pixel of a triangle. Answers the number of pixels written so far.
+    fn draw_pixel(
+        &self,
+        colors: &mut [u8],
+        depths: &mut [f32],
+        t: Primitive,
+        width: usize,
+        py: u32,
+        px: u32,
+        written: usize,
+    ) -> usize
+        requires paints { paints self.now t }
+        requires bounds { (px < 4096) × (py < 4096) × (width ≤ 4096) × (written ≤ 1000000000000) }
+        requires lengths { (py * width + px < length depths.old) × (length colors.old ≡ 4 * length depths.old) }
+        ensures { drawn_to colors.new depths.new result ≡ pixel_of (store self.now) (drawing self.now) t width py px (drawn_to colors.old depths.old written) };
 }
 
 pub fn fog_depth_at(p: PerCorner, t: Primitive) -> f32
@@ -35,55 +54,15 @@ pub fn fog_depth_at(p: PerCorner, t: Primitive) -> f32
     )
 }
 
-// Past the stages: the alpha test, then fog.
-pub fn finish(state: PipelineState, z: f32, fog_depth: f32, c: Rgba) -> Fragment
+// Past the stages: the alpha test, then fog. A fragment that is kept has its depth and colour.
+#[tactic(auto, unfolding(crate::specs::Way::finished))]
+pub fn finish(state: PipelineState, z: f32, fog_depth: f32, c: Rgba) -> Option<(f32, Rgba)>
     ensures { result ≡ finished state z fog_depth c }
 {
     if !fragment::alpha_passes(state, c.a) {
-        return Fragment::Dropped;
+        return None;
     }
-    Fragment::Kept(z, fragment::fogged(state, fog_depth, c))
-}
-
-// The fragment at a pixel's weights; stored is the pixel's depth.
-pub fn fragment_at(
-    store: &[u8],
-    table: &[f64; 128],
-    state: PipelineState,
-    stages: [TextureStage; 4],
-    count: usize,
-    textures: [Texture; 4],
-    t: Primitive,
-    w: PerCorner,
-    stored: f32,
-) -> Fragment
-    requires thresholds { Thresholds table.now }
-    requires stages_fit { StagesFit (length store.now) count stages textures }
-    ensures { result ≡ fragment_of store.now (drawing state stages count textures) t w stored }
-{
-    let z = coverage::depth_at(t.raster, w);
-    if !fragment::depth_passes(state, z, stored) {
-        return Fragment::Dropped;
-    }
-    let iw = coverage::inv_w_at(t.raster, w);
-    if !coverage::is_usable(iw) {
-        return Fragment::Dropped;
-    }
-    let rec = 1.0 / iw;
-    let p = coverage::shares_of(t.raster, w, rec);
-    let a = t.a.color;
-    let b = t.b.color;
-    let c = t.c.color;
-    let color = coverage::color_at(state.smooth_shading, p, a, b, c);
-    let fog_depth = fog_depth_at(p, t);
-    if count == 1 {
-        let stage = stages[0];
-        let texture = textures[0];
-        let sampled = stages::stage_at(store, table, stage, texture, t, w, rec, color);
-        return finish(state, z, fog_depth, sampled);
-    }
-    let shaded = stages::stages_color(store, table, stages, count, textures, t, w, rec, color);
-    finish(state, z, fog_depth, shaded)
+    Some((z, fragment::fogged(state, fog_depth, c)))
 }
 
 // A colour blended over the pixel's bytes from k on. Its channels come one by one, so that they stay in registers.
@@ -104,7 +83,10 @@ pub fn blended(
     fragment::blend(src_factor, dst_factor, Rgba { r, g, b, a }, dst)
 }
 
-fn write_color(colors: &mut [u8], i: usize, state: PipelineState, z: f32, c: Rgba)
+// Inlined into each paint's loop.
+#[tactic(auto, unfolding(fragment::specs::Fragment::put_color_of, frames::specs::Gather::put_color, frames::specs::State::pixel_at, crate::specs::Way::written_of, crate::specs::Way::blended_of))]
+#[inline(always)]
+pub fn write_color(colors: &mut [u8], i: usize, state: PipelineState, z: f32, c: Rgba)
     requires { i * 4 + 4 ≤ length colors.old }
     ensures { colors.new ≡ put_color colors.old i (written_of state z c (pixel_at colors.old [] i)) }
 {
@@ -128,39 +110,68 @@ pub fn write_depth(depths: &mut [f32], i: usize, state: PipelineState, z: f32, c
     }
 }
 
-// One pixel of a triangle. Answers the number of pixels written so far.
-pub fn draw_pixel(
-    colors: &mut [u8],
-    depths: &mut [f32],
-    store: &[u8],
-    table: &[f64; 128],
-    state: PipelineState,
-    stages: [TextureStage; 4],
-    count: usize,
-    textures: [Texture; 4],
-    t: Primitive,
-    width: usize,
-    py: u32,
-    px: u32,
-    written: usize,
-) -> usize
-    requires thresholds { Thresholds table.now }
-    requires stages_fit { StagesFit (length store.now) count stages textures }
-    requires bounds { (px < 4096) × (py < 4096) × (width ≤ 4096) × (written ≤ 1000000000000) }
-    requires lengths { (py * width + px < length depths.old) × (length colors.old ≡ 4 * length depths.old) }
-    ensures { drawn_to colors.new depths.new result ≡ pixel_of store.now (drawing state stages count textures) t width py px (drawn_to colors.old depths.old written) }
-{
-    let w = coverage::weights_at(t.raster, px, py);
-    if !coverage::is_covered(w) {
-        return written;
+// A draw with its stages.
+#[derive(Clone, Copy)]
+pub struct Staged<'a> {
+    pub state: PipelineState,
+    pub stages: Stages<'a>,
+}
+
+impl Staged<'_> {
+    // The fragment at a pixel's weights; stored is the pixel's depth.
+    pub fn fragment_at(&self, t: Primitive, w: PerCorner, stored: f32) -> Option<(f32, Rgba)>
+        ensures { result ≡ fragment_of self.now.stages.store.now (drawing self.now.state self.now.stages.stages self.now.stages.count self.now.stages.textures.now) t w stored }
+    {
+        let state = self.state;
+        let z = coverage::depth_at(t.raster, w);
+        if !fragment::depth_passes(state, z, stored) {
+            return None;
+        }
+        let iw = coverage::inv_w_at(t.raster, w);
+        if !coverage::is_usable(iw) {
+            return None;
+        }
+        let rec = 1.0 / iw;
+        let p = coverage::shares_of(t.raster, w, rec);
+        let a = t.a.color;
+        let b = t.b.color;
+        let c = t.c.color;
+        let color = coverage::color_at(state.smooth_shading, p, a, b, c);
+        let fog_depth = fog_depth_at(p, t);
+        if self.stages.count == 1 {
+            return finish(state, z, fog_depth, self.stages.first(t, w, rec, color));
+        }
+        finish(state, z, fog_depth, self.stages.color(t, w, rec, color))
     }
-    let i = py as usize * width + px as usize;
-    let Fragment::Kept(z, c) = fragment_at(
-        store, table, state, stages, count, textures, t, w, depths[i],
-    ) else {
-        return written;
-    };
-    write_color(colors, i, state, z, c);
-    write_depth(depths, i, state, z, c);
-    written + 1
+}
+
+impl Paint for Staged<'_> {
+    ghost store = { λ s. s.stages.store.now };
+
+    ghost drawing = { λ s. drawing s.state s.stages.stages s.stages.count s.stages.textures.now };
+
+    ghost paints = { λ _ _. Unit {0} };
+
+    fn draw_pixel(
+        &self,
+        colors: &mut [u8],
+        depths: &mut [f32],
+        t: Primitive,
+        width: usize,
+        py: u32,
+        px: u32,
+        written: usize,
+    ) -> usize {
+        let w = coverage::weights_at(t.raster, px, py);
+        if !coverage::is_covered(w) {
+            return written;
+        }
+        let i = py as usize * width + px as usize;
+        let Some((z, c)) = self.fragment_at(t, w, depths[i]) else {
+            return written;
+        };
+        write_color(colors, i, self.state, z, c);
+        write_depth(depths, i, self.state, z, c);
+        written + 1
+    }
 }

@@ -1,4 +1,5 @@
 -- A pixel of a triangle of one colour. Assumes nothing.
+use Rattle.std.specs.Prelude.{Some}
 use mathlib.Core.Path.{◌≡◌, refl, sym, ◌∙◌}
 use mathlib.Core.Bool.{Bool, true, false, cond}
 use mathlib.Core.List.{List, []}
@@ -13,7 +14,6 @@ use Rattle.frames.specs.State.{pixel_at}
 use Rattle.frames.specs.Gather.{put_color}
 use Rattle.coverage.specs.declared.Primitive.{Primitive}
 use Rattle.coverage.specs.Coverage.{weights_of, covered_by, depth_at, inv_w_at, usable, color_of}
-use Rattle.pixels.specs.declared.Fragment.TheVariants.{Kept}
 use Rattle.pixels.specs.Way.{drawing, fragment_of, blended_of, written_of, pixel_of, drawn_to}
 use Rattle.plain_pixels.specs.Solid.{solid_of, solid_color}
 use Rattle.pixels.proofs.Fragments.{flat_kept, reached}
@@ -61,7 +61,7 @@ module _ (s : PipelineState) (t : Primitive) (width py px : ℕ) (cs : List ℕ)
   untested_passes alpha = rw (solid_is s e).untested
 
   solid_fragment : (stored : Float) → depth_passes s (depth_at t.raster w) stored ≡ true → usable (inv_w_at t.raster w) ≡ true
-      → fragment_of [] (drawing s [] 0 []) t w stored ≡ Kept (depth_at t.raster w) (color_of false w t.a.color t.b.color t.c.color)
+      → fragment_of [] (drawing s [] 0 []) t w stored ≡ Some ((depth_at t.raster w), (color_of false w t.a.color t.b.color t.c.color))
   solid_fragment stored h k =
       let f = solid_is s e in
       sym (flat_kept s t w w (depth_at t.raster w) (color_of false w t.a.color t.b.color t.c.color) refl f.flat f.clear (untested_passes _) refl

@@ -4,36 +4,30 @@
 pub mod solid;
 
 ghost use Rattle.std.specs.Prelude.{◌≡◌, false, cond, not, ◌+◌, ◌*◌, ◌<◌, ◌≤◌, length, []};
-ghost use Rattle.frames.specs.State.{pixel_at};
-ghost use Rattle.frames.specs.Gather.{put_color};
-ghost use Rattle.pixels.specs.Way.{drawing, fragment_of, written_of, pixel_of, drawn_to};
+ghost use Rattle.pixels.specs.Way.{drawing, fragment_of, pixel_of, drawn_to};
 
 use coverage::Primitive;
 use gradients::PerCorner;
-use pixels::Fragment;
 use settings::{PipelineState, Rgba};
 
 // Whether a fragment's colour is its last corner's as it is.
 fn is_flat(state: PipelineState) -> bool
     ensures { result ≡ cond state.smooth_shading false (not state.fog) }
 {
-    if state.smooth_shading {
-        return false;
-    }
-    !state.fog
+    !state.smooth_shading && !state.fog
 }
 
 // The fragment at a pixel's weights; stored is the pixel's depth.
-fn fragment_at(state: PipelineState, t: Primitive, w: PerCorner, stored: f32) -> Fragment
+fn fragment_at(state: PipelineState, t: Primitive, w: PerCorner, stored: f32) -> Option<(f32, Rgba)>
     ensures { result ≡ fragment_of [] (drawing state [] 0 []) t w stored }
 {
     let z = coverage::depth_at(t.raster, w);
     if !fragment::depth_passes(state, z, stored) {
-        return Fragment::Dropped;
+        return None;
     }
     let iw = coverage::inv_w_at(t.raster, w);
     if !coverage::is_usable(iw) {
-        return Fragment::Dropped;
+        return None;
     }
     let a = t.a.color;
     let b = t.b.color;
@@ -41,28 +35,13 @@ fn fragment_at(state: PipelineState, t: Primitive, w: PerCorner, stored: f32) ->
     if is_flat(state) {
         let flat = coverage::color_at(false, w, a, b, c);
         if !fragment::alpha_passes(state, flat.a) {
-            return Fragment::Dropped;
+            return None;
         }
-        return Fragment::Kept(z, flat);
+        return Some((z, flat));
     }
     let p = coverage::shares_of(t.raster, w, 1.0 / iw);
     let color = coverage::color_at(state.smooth_shading, p, a, b, c);
     pixels::finish(state, z, pixels::fog_depth_at(p, t), color)
-}
-
-fn write_color(colors: &mut [u8], i: usize, state: PipelineState, z: f32, c: Rgba)
-    requires { i * 4 + 4 ≤ length colors.old }
-    ensures { colors.new ≡ put_color colors.old i (written_of state z c (pixel_at colors.old [] i)) }
-{
-    let mask = state.color_mask;
-    if state.blend {
-        let src_factor = state.blend_src;
-        let dst_factor = state.blend_dst;
-        let out = pixels::blended(colors, i * 4, src_factor, dst_factor, c.r, c.g, c.b, c.a);
-        fragment::put_color(colors, i * 4, mask, out);
-        return;
-    }
-    fragment::put_color(colors, i * 4, mask, c);
 }
 
 // One pixel of a triangle. Answers the number of pixels written so far.
@@ -85,10 +64,10 @@ pub fn draw_pixel(
         return written;
     }
     let i = py as usize * width + px as usize;
-    let Fragment::Kept(z, c) = fragment_at(state, t, w, depths[i]) else {
+    let Some((z, c)) = fragment_at(state, t, w, depths[i]) else {
         return written;
     };
-    write_color(colors, i, state, z, c);
+    pixels::write_color(colors, i, state, z, c);
     pixels::write_depth(depths, i, state, z, c);
     written + 1
 }

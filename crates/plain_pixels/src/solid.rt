@@ -1,9 +1,10 @@
 // A pixel of a triangle of one colour, whose bytes are made once: a draw without a stage, under settings that leave the colour as it is.
 ghost use Rattle.std.specs.Prelude.{◌≡◌, true, [], ◌+◌, ◌*◌, ◌<◌, ◌≤◌, length, set};
-ghost use Rattle.pixels.specs.Way.{drawing, pixel_of, drawn_to};
+ghost use Rattle.pixels.specs.Way.{drawing};
 ghost use Rattle.plain_pixels.specs.Solid.{all_on, solid_of, solid_color};
 
 use coverage::Primitive;
+use pixels::Paint;
 use settings::{ColorMask, PipelineState};
 
 #[derive(Clone, Copy)]
@@ -17,35 +18,18 @@ pub struct SolidColor {
 fn are_all_on(mask: ColorMask) -> bool
     ensures { result ≡ all_on mask }
 {
-    if !mask.r {
-        return false;
-    }
-    if !mask.g {
-        return false;
-    }
-    if !mask.b {
-        return false;
-    }
-    mask.a
+    mask.r && mask.g && mask.b && mask.a
 }
 
+#[tactic(auto, unfolding(crate::specs::Solid::solid_of))]
 pub fn is_solid(state: PipelineState) -> bool
     ensures { result ≡ solid_of state }
 {
-    if state.smooth_shading {
-        return false;
-    }
-    if state.fog {
-        return false;
-    }
-    if state.blend {
-        return false;
-    }
-    if state.alpha_test {
-        return false;
-    }
-    let mask = state.color_mask;
-    are_all_on(mask)
+    !state.smooth_shading
+        && !state.fog
+        && !state.blend
+        && !state.alpha_test
+        && are_all_on(state.color_mask)
 }
 
 pub fn solid_color(t: Primitive) -> SolidColor
@@ -70,39 +54,49 @@ fn put_bytes(colors: &mut [u8], k: usize, color: SolidColor)
     colors[k + 3] = color.a;
 }
 
-// One pixel of a triangle. Answers the number of pixels written so far.
-pub fn draw_pixel(
-    colors: &mut [u8],
-    depths: &mut [f32],
-    state: PipelineState,
-    t: Primitive,
-    color: SolidColor,
-    width: usize,
-    py: u32,
-    px: u32,
-    written: usize,
-) -> usize
-    requires solid { (solid_of state ≡ true) × (color ≡ solid_color t) }
-    requires bounds { (px < 4096) × (py < 4096) × (width ≤ 4096) × (written ≤ 1000000000000) }
-    requires lengths { (py * width + px < length depths.old) × (length colors.old ≡ 4 * length depths.old) }
-    ensures { drawn_to colors.new depths.new result ≡ pixel_of [] (drawing state [] 0 []) t width py px (drawn_to colors.old depths.old written) }
-{
-    let w = coverage::weights_at(t.raster, px, py);
-    if !coverage::is_covered(w) {
-        return written;
+// Such a draw, with the bytes of a triangle's colour.
+#[derive(Clone, Copy)]
+pub struct Solid {
+    pub state: PipelineState,
+    pub color: SolidColor,
+    pub ghost solid: { solid_of state ≡ true },
+}
+
+impl Paint for Solid {
+    ghost store = { λ _. [] };
+
+    ghost drawing = { λ s. drawing s.state [] 0 [] };
+
+    ghost paints = { λ s t. s.color ≡ solid_color t };
+
+    fn draw_pixel(
+        &self,
+        colors: &mut [u8],
+        depths: &mut [f32],
+        t: Primitive,
+        width: usize,
+        py: u32,
+        px: u32,
+        written: usize,
+    ) -> usize {
+        let state = self.state;
+        let w = coverage::weights_at(t.raster, px, py);
+        if !coverage::is_covered(w) {
+            return written;
+        }
+        let i = py as usize * width + px as usize;
+        let z = coverage::depth_at(t.raster, w);
+        if !fragment::depth_passes(state, z, depths[i]) {
+            return written;
+        }
+        if !coverage::is_usable(coverage::inv_w_at(t.raster, w)) {
+            return written;
+        }
+        let a = t.a.color;
+        let b = t.b.color;
+        let c = t.c.color;
+        put_bytes(colors, i * 4, self.color);
+        pixels::write_depth(depths, i, state, z, coverage::color_at(false, w, a, b, c));
+        written + 1
     }
-    let i = py as usize * width + px as usize;
-    let z = coverage::depth_at(t.raster, w);
-    if !fragment::depth_passes(state, z, depths[i]) {
-        return written;
-    }
-    if !coverage::is_usable(coverage::inv_w_at(t.raster, w)) {
-        return written;
-    }
-    let a = t.a.color;
-    let b = t.b.color;
-    let c = t.c.color;
-    put_bytes(colors, i * 4, color);
-    pixels::write_depth(depths, i, state, z, coverage::color_at(false, w, a, b, c));
-    written + 1
 }

@@ -11,11 +11,11 @@ use lib.Ieee.{Float, nan}
 use Rattle.lists.specs.Lists.{tab}
 use Rattle.lists.proofs.Tables.{length_tab, get_or_tab}
 use Rattle.vertices.specs.declared.Vertex.{Vertex}
-use Rattle.vertices.specs.Vertex.{lerp, mix4, mix8, past}
+use Rattle.vertices.specs.Vertex.{lerp, mixed, past}
 use Rattle.polygon.specs.Corners.{vertex_from, vertex_at, corners_of, floats_of, put_at, Full}
 
 pub full_lerp : (t : Float) (a b : Vertex) → Full (lerp t a b)
-unfolding lerp mix4 mix8
+unfolding lerp mixed
 full_lerp t a b = record { pos_long = refl; color_long = refl; texcoord_long = refl }
 
 pub full_at : (s : List Float) (i : ℕ) → Full (vertex_at s i)

@@ -1,11 +1,77 @@
-// The corners of a polygon under clipping, in a lent array: seventeen floats a corner, room for the 42 that clipping can leave.
+// The corners of a polygon under clipping, and a corner as seventeen floats in a lent array.
 #![tactic(auto)]
 
-ghost use Rattle.std.specs.Prelude.{◌≡◌, ◌+◌, ◌*◌, ◌<◌, ◌≤◌, length};
-ghost use Rattle.std.proofs.Math.Seq.{paste};
+ghost use Rattle.std.specs.Prelude.{◌≡◌, ◌+◌, ◌*◌, ◌<◌, ◌≤◌, [], ◌∷◌, ◌++◌, length, get_or};
+ghost use Rattle.vertices.specs.Vertex.{past};
 ghost use Rattle.polygon.specs.Corners.{vertex_at, put_at, Full, corners_of};
 
+use std::marker::Model;
 use vertices::Vertex;
+
+// At most 42 corners: what the seven planes can leave of a triangle.
+#[derive(Drop)]
+pub struct Polygon {
+    corners: [Vertex; 42],
+    len: usize,
+}
+
+// Clauses see the corners in order.
+impl Model for Polygon {
+    ghost use Rattle.std.specs.Prelude.{List, ◌≤◌, take};
+    ghost use Rattle.vertices.specs.declared.Vertex.{Vertex};
+
+    ghost Value = { List Vertex };
+
+    ghost view = { λ p. take p.len p.corners };
+
+    ghost invariant = { λ p. p.len ≤ 42 };
+}
+
+impl Polygon {
+    pub fn new() -> Self
+        ensures { result ≡ [] }
+    {
+        let zero = Vertex {
+            pos: [0.0; 4],
+            color: [0.0; 4],
+            texcoord: [0.0; 8],
+            fog_depth: 0.0,
+        };
+        Polygon {
+            corners: [zero; 42],
+            len: 0,
+        }
+    }
+
+    pub fn corners(&self) -> &[Vertex]
+        ensures same { result.now ≡ self.now }
+        ensures few { length self.now ≤ 42 }
+    {
+        &self.corners[..self.len]
+    }
+
+    pub fn push(&mut self, corner: Vertex)
+        requires { length self.old < 42 }
+        ensures { self.new ≡ self.old ++ corner ∷ [] }
+    {
+        self.corners[self.len] = corner;
+        self.len += 1;
+    }
+
+    pub fn clear(&mut self)
+        ensures { self.new ≡ [] }
+    {
+        self.len = 0;
+    }
+
+    pub fn copy_from(&mut self, other: &Polygon)
+        ensures { self.new ≡ other.now }
+    {
+        let len = other.len;
+        self.corners[..len].copy_from_slice(&other.corners[..len]);
+        self.len = len;
+    }
+}
 
 pub fn corner(polygon: &[f32], i: usize) -> Vertex
     requires { (length polygon.now ≡ 714) × (i < 42) }
@@ -39,49 +105,23 @@ pub fn corner(polygon: &[f32], i: usize) -> Vertex
     }
 }
 
-fn put_floats(polygon: &mut [f32], at: usize, v: &[f32])
-    requires { at + length v.now ≤ length polygon.old }
-    ensures { polygon.new ≡ paste polygon.old at v.now (length v.now) }
-{
-    for k in 0..v.len() {
-        polygon[at + k] = v[k];
-    }
-}
-
-fn put_four(polygon: &mut [f32], at: usize, v: [f32; 4])
-    requires { at + 4 ≤ length polygon.old }
-    ensures { (polygon.new ≡ paste polygon.old at v (length v)) × (length v ≡ 4) }
-{
-    put_floats(polygon, at, &v);
-}
-
-fn put_eight(polygon: &mut [f32], at: usize, v: [f32; 8])
-    requires { at + 8 ≤ length polygon.old }
-    ensures { (polygon.new ≡ paste polygon.old at v (length v)) × (length v ≡ 8) }
-{
-    put_floats(polygon, at, &v);
-}
-
 pub fn put_corner(polygon: &mut [f32], i: usize, vertex: Vertex)
     requires { (length polygon.old ≡ 714) × (i < 42) }
     ensures { (polygon.new ≡ put_at polygon.old i vertex) × Full vertex }
 {
     let at = i * 17;
-    let pos = vertex.pos;
-    let color = vertex.color;
-    let texcoord = vertex.texcoord;
-    put_four(polygon, at, pos);
-    put_four(polygon, at + 4, color);
-    put_eight(polygon, at + 8, texcoord);
+    polygon[at..at + 4].copy_from_slice(&vertex.pos);
+    polygon[at + 4..at + 8].copy_from_slice(&vertex.color);
+    polygon[at + 8..at + 16].copy_from_slice(&vertex.texcoord);
     polygon[at + 16] = vertex.fog_depth;
 }
 
-// The first len corners of one polygon, put in another's place.
-pub fn copy_corners(from: &[f32], to: &mut [f32], len: usize)
-    requires { (length from.now ≡ 714) × (length to.old ≡ 714) × (len ≤ 42) }
-    ensures { corners_of len to.new ≡ corners_of len from.now }
+// A polygon's corners, from the front.
+pub fn put_corners(polygon: &mut [f32], from: &Polygon)
+    requires { length polygon.old ≡ 714 }
+    ensures { corners_of (length from.now) polygon.new ≡ from.now }
 {
-    for i in 0..len {
-        put_corner(to, i, corner(from, i));
+    for (i, vertex) in from.corners().iter().enumerate() {
+        put_corner(polygon, i, *vertex);
     }
 }

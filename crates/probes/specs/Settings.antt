@@ -1,29 +1,26 @@
 -- How the probes hand over codes and colours.
-use Rattle.std.specs.Prelude.{ℕ, cond, List, [], ◌∷◌, eqb, Float, get_or}
+use Rattle.std.specs.Prelude.{ℕ, cond, List, [], ◌∷◌, eqb, Float, get_or, Result, Ok, Err}
 use Rattle.std.specs.Float.{nan}
 use Rattle.settings.specs.declared.Rgba.{Rgba}
 use Rattle.settings.specs.declared.CompareFunc.{CompareFunc}
 use Rattle.settings.specs.declared.CompareFunc.TheVariants.{Never}
-use Rattle.settings.specs.declared.ReadCompare.{ReadCompare}
-use Rattle.settings.specs.declared.ReadCompare.TheVariants as RC
 use Rattle.settings.specs.declared.BlendFactor.{BlendFactor}
 use Rattle.settings.specs.declared.BlendFactor.TheVariants.{Zero}
-use Rattle.settings.specs.declared.ReadFactor.{ReadFactor}
-use Rattle.settings.specs.declared.ReadFactor.TheVariants as RF
 use Rattle.settings.specs.declared.TexEnvMode.{TexEnvMode}
 use Rattle.settings.specs.declared.TexEnvMode.TheVariants as E
 use Rattle.settings.specs.Settings.{read_compare, read_factor}
+use Rattle.answers.specs.declared.Refusal.{Refusal}
 
-abbrev pub compare_or : ReadCompare → CompareFunc
-compare_or (RC.Is f) = f
-compare_or (RC.Refused why) = Never
+abbrev pub compare_or : Result CompareFunc Refusal → CompareFunc
+compare_or (Ok f) = f
+compare_or (Err why) = Never
 
 abbrev pub compare_of : ℕ → CompareFunc
 compare_of code = compare_or (read_compare code)
 
-abbrev pub factor_or : ReadFactor → BlendFactor
-factor_or (RF.Is f) = f
-factor_or (RF.Refused why) = Zero
+abbrev pub factor_or : Result BlendFactor Refusal → BlendFactor
+factor_or (Ok f) = f
+factor_or (Err why) = Zero
 
 abbrev pub factor_of : ℕ → BlendFactor
 factor_of code = factor_or (read_factor code)

@@ -1,20 +1,17 @@
 -- How the exports of probe_clip take and tell their numbers.
-use Rattle.std.specs.Prelude.{ℕ, Bool, true, false, cond, List, [], ◌∷◌, eqb, get_or, Float}
+use Rattle.std.specs.Prelude.{ℕ, Bool, true, false, cond, List, [], ◌∷◌, eqb, get_or, Float, Option, Some, None}
 use Rattle.std.proofs.lemmas.List.Edits.{sets}
 use Rattle.std.specs.Float.{nan}
-use Rattle.settings.specs.declared.Cull.{Cull}
-use Rattle.settings.specs.declared.Cull.TheVariants.{Off, Discard}
 use Rattle.settings.specs.declared.CullMode.TheVariants.{Front, Back, FrontAndBack}
 use Rattle.settings.specs.declared.DepthRange.{DepthRange}
 use Rattle.settings.specs.declared.FrontFace.{FrontFace}
 use Rattle.settings.specs.declared.FrontFace.TheVariants.{Cw, Ccw}
 use Rattle.screen.specs.declared.View.{View}
-use Rattle.setup.specs.declared.PixelBox.{PixelBox}
+use Rattle.scissor.specs.declared.PixelBox.{PixelBox}
 use Rattle.setup.specs.declared.Raster.{Raster}
-use Rattle.setup.specs.declared.Setup.{Setup}
-use Rattle.setup.specs.declared.Setup.TheVariants.{Nothing, Draws}
 use Rattle.gradients.specs.declared.PerCorner.{PerCorner}
 use Rattle.gradients.specs.declared.Attribute.{Attribute}
+use Rattle.settings.specs.declared.CullMode.{CullMode}
 
 abbrev pub view_from : List Float → View
 view_from l = record { x = get_or l 0 nan; y = get_or l 1 nan; width = get_or l 2 nan; height = get_or l 3 nan; rows = get_or l 4 nan }
@@ -31,8 +28,8 @@ corners_from l i j k = record { a = get_or l i nan; b = get_or l j nan; c = get_
 abbrev pub face_of : Bool → FrontFace
 face_of ccw = cond ccw Ccw Cw
 
-unfoldable pub cull_of : ℕ → Cull
-cull_of n = cond (eqb n 1) (Discard Front) (cond (eqb n 2) (Discard Back) (cond (eqb n 3) (Discard FrontAndBack) Off))
+abbrev pub cull_of : ℕ → Option CullMode
+cull_of n = cond (eqb n 1) (Some Front) (cond (eqb n 2) (Some Back) (cond (eqb n 3) (Some FrontAndBack) None))
 
 abbrev pub floats_of : Raster → List Float
 floats_of r =
@@ -54,6 +51,6 @@ pub record Told : Type 0 where
 abbrev pub told : Bool → List Float → List ℕ → Told
 told b f e = record { draws = b; floats = f; ends = e }
 
-abbrev pub told_of : Setup → List Float → List ℕ → Told
-told_of Nothing f e = told false f e
-told_of (Draws r) f e = told true (sets f 0 (floats_of r)) (sets e 0 (ends_of r.pixels))
+abbrev pub told_of : Option Raster → List Float → List ℕ → Told
+told_of None f e = told false f e
+told_of (Some r) f e = told true (sets f 0 (floats_of r)) (sets e 0 (ends_of r.pixels))

@@ -2,7 +2,7 @@
 ghost use Rattle.std.specs.Prelude.{◌≡◌, [], ◌∷◌, ◌≤◌, length, get_or};
 ghost use Rattle.std.specs.Float.{nan};
 ghost use Rattle.std.proofs.lemmas.List.Edits.{sets};
-ghost use Rattle.vertices.specs.Vertex.{distance, inside_frustum, lerp};
+ghost use Rattle.vertices.specs.Vertex.{plane_at, distance, inside_frustum, lerp};
 ghost use Rattle.polygon.specs.Corners.{vertex_at, corners_of, put_at};
 ghost use Rattle.clip.specs.Clip.{clipped};
 ghost use Rattle.setup.specs.Setup.{setup_of};
@@ -10,16 +10,18 @@ ghost use Rattle.gradients.specs.Gradients.{derivatives_of, attribute_of};
 ghost use Rattle.probes.specs.Told.{view_from, range_from, box_from, face_of, cull_of, told, told_of, attribute_floats, floats_of, ends_of, corners_from};
 
 use gradients::PerCorner;
+use scissor::PixelBox;
 use screen::View;
-use settings::{Cull, CullMode, DepthRange, FrontFace};
-use setup::{PixelBox, Raster, Setup};
+use settings::{CullMode, DepthRange, FrontFace};
+use setup::Raster;
+use vertices::Plane;
 
 #[unsafe(no_mangle)]
 pub extern "C" fn probe_clip_distance(polygon: &[f32], plane: usize) -> f32
     requires { length polygon.now ≡ 714 }
-    ensures { result ≡ distance plane (vertex_at polygon.now 0) }
+    ensures { result ≡ distance (plane_at plane) (vertex_at polygon.now 0) }
 {
-    vertices::clip_distance(polygon::corner(polygon, 0), plane)
+    polygon::corner(polygon, 0).clip_distance(Plane::from(plane))
 }
 
 #[unsafe(no_mangle)]
@@ -27,7 +29,7 @@ pub extern "C" fn probe_inside_frustum(polygon: &[f32]) -> bool
     requires { length polygon.now ≡ 714 }
     ensures { result ≡ inside_frustum (vertex_at polygon.now 0) }
 {
-    vertices::inside_frustum(polygon::corner(polygon, 0))
+    polygon::corner(polygon, 0).inside_frustum()
 }
 
 // Corner 2 becomes the vertex at t between corners 0 and 1.
@@ -38,7 +40,7 @@ pub extern "C" fn probe_lerp_vertex(polygon: &mut [f32], t: f32)
 {
     let a = polygon::corner(polygon, 0);
     let b = polygon::corner(polygon, 1);
-    polygon::put_corner(polygon, 2, vertices::lerp_vertex(a, b, t));
+    polygon::put_corner(polygon, 2, a.lerp(&b, t));
 }
 
 // The first three corners become the polygon that clipping leaves of them.
@@ -50,26 +52,25 @@ pub extern "C" fn probe_clip_triangle(polygon: &mut [f32]) -> usize
     let a = polygon::corner(polygon, 0);
     let b = polygon::corner(polygon, 1);
     let c = polygon::corner(polygon, 2);
-    clip::clip_triangle(polygon, a, b, c)
+    let left = clip::clip_triangle(a, b, c);
+    polygon::put_corners(polygon, &left);
+    left.corners().len()
 }
 
 fn face(ccw: bool) -> FrontFace
     ensures { result ≡ face_of ccw }
 {
-    if ccw {
-        return FrontFace::Ccw;
-    }
-    FrontFace::Cw
+    if ccw { FrontFace::Ccw } else { FrontFace::Cw }
 }
 
-fn cull(n: u32) -> Cull
+fn cull(n: u32) -> Option<CullMode>
     ensures { result ≡ cull_of n }
 {
     match n {
-        1 => Cull::Discard(CullMode::Front),
-        2 => Cull::Discard(CullMode::Back),
-        3 => Cull::Discard(CullMode::FrontAndBack),
-        _ => Cull::Off,
+        1 => Some(CullMode::Front),
+        2 => Some(CullMode::Back),
+        3 => Some(CullMode::FrontAndBack),
+        _ => None,
     }
 }
 
@@ -107,11 +108,11 @@ fn tell_ends(p: PixelBox, ends: &mut [u32])
     ends[3] = p.y1;
 }
 
-fn tell(done: Setup, out: &mut [f32], ends: &mut [u32]) -> bool
+fn tell(done: Option<Raster>, out: &mut [f32], ends: &mut [u32]) -> bool
     requires { (13 ≤ length out.old) × (4 ≤ length ends.old) }
     ensures { told result out.new ends.new ≡ told_of done out.old ends.old }
 {
-    let Setup::Draws(r) = done else {
+    let Some(r) = done else {
         return false;
     };
     let pixels = r.pixels;
@@ -140,7 +141,7 @@ fn setup_from(
     ccw: bool,
     culled: u32,
     within: PixelBox,
-) -> Setup
+) -> Option<Raster>
     requires { length polygon.now ≡ 714 }
     ensures { result ≡ setup_of view range (face_of ccw) (cull_of culled) within (vertex_at polygon.now 0) (vertex_at polygon.now 1) (vertex_at polygon.now 2) }
 {

@@ -1,13 +1,11 @@
 // The helpers of the crates floats, channels and rounding.
-ghost use Rattle.std.specs.Prelude.{◌≡◌, ℕ, length, get_or, pos, negsuc, cond};
+ghost use Rattle.std.specs.Prelude.{◌≡◌, ℕ, ◌+◌, ◌-◌, min, nat_eq, length, get_or, pos, negsuc, cond};
 ghost use Rattle.std.specs.Float.Ieee as Ieee;
 ghost use Rattle.std.specs.Float.{binary32, nan};
 ghost use Rattle.lists.specs.Lists.{tab};
 ghost use Rattle.floats.specs.Num.{min_of, max_of, clamp_of, abs_of, finite_of, bounded_of};
 ghost use Rattle.rounding.specs.Rounding.{floor_of, ceil_of, round_of, next_of};
 ghost use Rattle.channels.specs.Channel.{unit_of, byte_of, round_byte_of};
-
-use rounding::Whole;
 
 #[unsafe(no_mangle)]
 pub extern "C" fn probe_min(a: f32, b: f32) -> f32
@@ -41,7 +39,7 @@ pub extern "C" fn probe_abs(x: f32) -> f32
 pub extern "C" fn probe_is_nan(x: f32) -> bool
     ensures { result ≡ Ieee.is_nan x }
 {
-    floats::is_nan(x)
+    x.is_nan()
 }
 
 #[unsafe(no_mangle)]
@@ -69,14 +67,14 @@ pub extern "C" fn probe_from_bits(n: u32) -> f32
 pub extern "C" fn probe_saturating_u8(x: f32) -> u8
     ensures { result ≡ Ieee.to_unsigned 8 x }
 {
-    floats::saturating_u8(x)
+    std::num::saturating_f32_to_u8(x)
 }
 
 #[unsafe(no_mangle)]
 pub extern "C" fn probe_saturating_u32(x: f32) -> u32
     ensures { result ≡ Ieee.to_unsigned 32 x }
 {
-    floats::saturating_u32(x)
+    std::num::saturating_f32_to_u32(x)
 }
 
 #[unsafe(no_mangle)]
@@ -101,40 +99,57 @@ pub extern "C" fn probe_round(x: f32) -> f32
 }
 
 // A signed number is n, or -1 - n where the answer is true.
+fn told(z: i64, n: &mut u64) -> bool
+    ensures { cond result (negsuc n.new) (pos n.new) ≡ z }
+{
+    if z < 0 {
+        *n = z.unsigned_abs() - 1;
+        return true;
+    }
+    *n = z.unsigned_abs();
+    false
+}
+
 #[unsafe(no_mangle)]
 pub extern "C" fn probe_saturating_i32(x: f32, n: &mut u64) -> bool
     ensures { cond result (negsuc n.new) (pos n.new) ≡ Ieee.to_signed 31 x }
 {
-    let w = rounding::saturating_i32(x);
-    *n = w.n;
-    w.below
+    told(i64::from(std::num::saturating_f32_to_i32(x)), n)
 }
 
 #[unsafe(no_mangle)]
 pub extern "C" fn probe_saturating_i64(x: f32, n: &mut u64) -> bool
     ensures { cond result (negsuc n.new) (pos n.new) ≡ Ieee.to_signed 63 x }
 {
-    let w = rounding::saturating_i64(x);
-    *n = w.n;
-    w.below
+    told(std::num::saturating_f32_to_i64(x), n)
+}
+
+// One more, up to `top`. Any u64 may come, so that the numbers need not fit an i64.
+fn next(below: bool, m: u64, top: u64, n: &mut u64) -> bool
+    ensures { cond result (negsuc n.new) (pos n.new) ≡ cond below (cond (nat_eq m 0) (pos 0) (negsuc (m - 1))) (pos (min (m + 1) top)) }
+{
+    *n = if !below {
+        m.saturating_add(1).min(top)
+    } else if m == 0 {
+        0
+    } else {
+        m - 1
+    };
+    below && m != 0
 }
 
 #[unsafe(no_mangle)]
 pub extern "C" fn probe_next_i32(below: bool, m: u64, n: &mut u64) -> bool
     ensures { cond result (negsuc n.new) (pos n.new) ≡ next_of 31 (cond below (negsuc m) (pos m)) }
 {
-    let w = rounding::next_i32(Whole { below: below, n: m });
-    *n = w.n;
-    w.below
+    next(below, m, 2147483647, n)
 }
 
 #[unsafe(no_mangle)]
 pub extern "C" fn probe_next_i64(below: bool, m: u64, n: &mut u64) -> bool
     ensures { cond result (negsuc n.new) (pos n.new) ≡ next_of 63 (cond below (negsuc m) (pos m)) }
 {
-    let w = rounding::next_i64(Whole { below: below, n: m });
-    *n = w.n;
-    w.below
+    next(below, m, 9223372036854775807, n)
 }
 
 #[unsafe(no_mangle)]
@@ -164,10 +179,8 @@ pub extern "C" fn probe_to_bytes(src: &[f32], out: &mut [u8])
     requires { length src.now ≡ length out.old }
     ensures { out.new ≡ tab (length src.now) (λ (i : ℕ). byte_of (get_or src.now i nan)) }
 {
-    let mut i = 0;
-    while i < src.len() {
+    for i in 0..src.len() {
         out[i] = channels::to_byte(src[i]);
-        i += 1;
     }
 }
 
@@ -177,9 +190,7 @@ pub extern "C" fn probe_floors(src: &[f32], out: &mut [f32])
     requires { length src.now ≡ length out.old }
     ensures { out.new ≡ tab (length src.now) (λ (i : ℕ). floor_of (get_or src.now i nan)) }
 {
-    let mut i = 0;
-    while i < src.len() {
+    for i in 0..src.len() {
         out[i] = rounding::floor(src[i]);
-        i += 1;
     }
 }

@@ -6,17 +6,15 @@ ghost use Rattle.settings.specs.Factor.{resolve_of};
 ghost use Rattle.fragment.specs.Fragment.{env_of, linear_fog_of, fog_mix_of, blend_of, masked_of};
 ghost use Rattle.probes.specs.Settings.{compare_or, compare_of, factor_or, factor_of, environment_of, color_of, channels_of};
 
-use settings::{
-    BlendFactor, CompareFunc, PipelineState, ReadCompare, ReadFactor, Rgba, TexEnvMode,
-    TextureStage,
-};
+use answers::Refusal;
+use settings::{BlendFactor, CompareFunc, PipelineState, Rgba, TexEnvMode, TextureStage};
 
-fn compare_or_never(read: ReadCompare) -> CompareFunc
+fn compare_or_never(read: Result<CompareFunc, Refusal>) -> CompareFunc
     ensures { result ≡ compare_or read }
 {
     match read {
-        ReadCompare::Is(f) => f,
-        ReadCompare::Refused(_) => CompareFunc::Never,
+        Ok(f) => f,
+        Err(_) => CompareFunc::Never,
     }
 }
 
@@ -24,22 +22,22 @@ fn compare_or_never(read: ReadCompare) -> CompareFunc
 pub extern "C" fn probe_test(code: u32, lhs: f32, rhs: f32) -> bool
     ensures { result ≡ test_of (compare_of code) lhs rhs }
 {
-    compare_or_never(CompareFunc::from_enum(code)).test(lhs, rhs)
+    compare_or_never(CompareFunc::try_from(code)).test(lhs, rhs)
 }
 
-fn factor_or_zero(read: ReadFactor) -> BlendFactor
+fn factor_or_zero(read: Result<BlendFactor, Refusal>) -> BlendFactor
     ensures { result ≡ factor_or read }
 {
     match read {
-        ReadFactor::Is(f) => f,
-        ReadFactor::Refused(_) => BlendFactor::Zero,
+        Ok(f) => f,
+        Err(_) => BlendFactor::Zero,
     }
 }
 
 fn factor(code: u32) -> BlendFactor
     ensures { result ≡ factor_of code }
 {
-    factor_or_zero(BlendFactor::from_enum(code))
+    factor_or_zero(BlendFactor::try_from(code))
 }
 
 fn environment(code: u32) -> TexEnvMode

@@ -1,5 +1,6 @@
 -- Document 01, Corners, raster.rs: triangles left by clipping that write nothing. The other triangles of their fan are drawn all the same,
 -- since each is a step of its own. Assumes nothing.
+use Rattle.std.specs.Prelude.{Some, None}
 use mathlib.Core.Path.{◌≡◌, refl, sym, ◌∙◌}
 use mathlib.Core.Logic.{◌⊎◌, inl, inr}
 use mathlib.Core.Bool.{Bool, true, false, cond}
@@ -20,16 +21,14 @@ use Rattle.gradients.specs.Gradients.{per_corner, sum_of}
 use Rattle.screen.specs.declared.View.{View}
 use Rattle.screen.specs.Screen.{divides, screen_of}
 use Rattle.screen.specs.Facing.{area_of, area_fits}
-use Rattle.setup.specs.declared.PixelBox.{PixelBox}
+use Rattle.scissor.specs.declared.PixelBox.{PixelBox}
 use Rattle.setup.specs.declared.Raster.{Raster}
-use Rattle.setup.specs.declared.Setup.TheVariants.{Nothing, Draws}
 use Rattle.setup.specs.Setup.{setup_of, on_screen}
 use Rattle.setup.proofs.Outcomes.{first_undivided, second_undivided, third_undivided, all_divided}
 use Rattle.frames.specs.State.{Pixel, pixel_at}
 use Rattle.frames.specs.Gather.{Drawn, Frag, put_pixel}
 use Rattle.coverage.specs.declared.Primitive.{Primitive}
 use Rattle.coverage.specs.Coverage.{edge_of, weights_of, covered_by, depth_at, inv_w_at, usable}
-use Rattle.pixels.specs.declared.Fragment.TheVariants.{Dropped}
 use Rattle.stages.specs.Stages.{stages_addresses}
 use Rattle.pixels.specs.Way.{Drawing, reaches, rec_of, fragment_of, left_by, frag_at, pixel_of}
 use Rattle.raster.specs.Fill.{primitive_of, row_of, fill_of, raster_of}
@@ -38,7 +37,7 @@ use Rattle.raster.proofs.Setups.{nothing_drawn, filled}
 -- ---- a corner that cannot be divided, an area that is 0 or not finite
 
 module _ (store : List ℕ) (d : Drawing) (view : View) (within : PixelBox) (width : ℕ) (a b c : Vertex) (s : Drawn) where
-  nothing : setup_of view d.state.depth_range d.state.front_face d.state.cull within a b c ≡ Nothing → raster_of store d view within width (triangle_of a b c) s ≡ s
+  nothing : setup_of view d.state.depth_range d.state.front_face d.state.cull within a b c ≡ None → raster_of store d view within width (triangle_of a b c) s ≡ s
   nothing e = sym (nothing_drawn store d view within width a b c s e)
 
   -- w below 1e-9 in magnitude or not finite, or a divided corner not finite
@@ -118,7 +117,7 @@ never false = refl
 
 module _ (store : List ℕ) (d : Drawing) (t : Primitive) (b : Bool) (e : t.raster.inv_area ≡ inf b) where
   unreached : (px py : ℕ) (stored : Float) → usable (inv_w_at t.raster (weights_of t.raster px py)) ≡ false
-      → fragment_of store d t (weights_of t.raster px py) stored ≡ Dropped
+      → fragment_of store d t (weights_of t.raster px py) stored ≡ None
   unfolding fragment_of reaches
   unreached px py stored h = rw (h, never (depth_passes d.state (depth_at t.raster (weights_of t.raster px py)) stored))
 
@@ -138,7 +137,7 @@ module _ (store : List ℕ) (d : Drawing) (t : Primitive) (b : Bool) (e : t.rast
       w : PerCorner
       w = weights_of t.raster px py
 
-      either : fragment_of store d t w old.depth ≡ Dropped → (k : Bool)
+      either : fragment_of store d t w old.depth ≡ None → (k : Bool)
           → (cond {A = Frag} k (record { put = left_by d.state (fragment_of store d t w old.depth) old; took = cond (reaches d.state t w old.depth) (stages_addresses d.stages d.count d.textures t w (rec_of t w)) [] }) (record { put = none; took = [] })).put ≡ none
       either h true = rw h
       either h false = refl
@@ -162,7 +161,7 @@ module _ (store : List ℕ) (d : Drawing) (t : Primitive) (b : Bool) (e : t.rast
 
 -- the triangle whose area is so small that its reciprocal is infinite
 pub tiny_area_nothing : (store : List ℕ) (d : Drawing) (view : View) (within : PixelBox) (width : ℕ) (a b c : Vertex) (s : Drawn) (r : Raster) (sign : Bool)
-    → setup_of view d.state.depth_range d.state.front_face d.state.cull within a b c ≡ Draws r → r.inv_area ≡ inf sign
+    → setup_of view d.state.depth_range d.state.front_face d.state.cull within a b c ≡ Some r → r.inv_area ≡ inf sign
     → raster_of store d view within width (triangle_of a b c) s ≡ s
 unfolding primitive_of
 tiny_area_nothing store d view within width a b c s r sign e h =

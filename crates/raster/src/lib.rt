@@ -2,21 +2,29 @@
 #![tactic(auto)]
 
 ghost use Rattle.std.specs.Prelude.{◌≡◌, ◌+◌, ◌*◌, ◌-◌, ◌<◌, ◌≤◌, length, [], ◌∷◌};
-ghost use Rattle.detail.specs.Steps.{Thresholds};
-ghost use Rattle.stages.specs.Stages.{StagesFit};
-ghost use Rattle.pixels.specs.Way.{drawing, drawn_to};
+ghost use Rattle.pixels.specs.Way.{drawn_to};
 ghost use Rattle.clip.specs.Fan.{triangle_of, fan_of, draw_each};
 ghost use Rattle.clip.specs.Clip.{clipped};
 ghost use Rattle.raster.specs.Fill.{primitive_of, row_of, fill_of, raster_of, left_drawn};
 
 use coverage::Primitive;
 use gradients::PerCorner;
-use levels::Texture;
+use pixels::{Paint, Staged};
+use scissor::PixelBox;
 use screen::View;
-use settings::{PipelineState, TextureStage};
-use setup::{PixelBox, Raster, Setup};
+use settings::PipelineState;
+use setup::Raster;
 use vertices::Vertex;
 
+// The pixels of a box, on a target so many pixels wide.
+#[derive(Clone, Copy)]
+pub struct Region {
+    pub pixels: PixelBox,
+    pub width: usize,
+    pub ghost inside: { (pixels.x1 ≤ width) × (pixels.y1 ≤ 4096) × (width ≤ 4096) },
+}
+
+#[tactic(auto, unfolding(crate::specs::Fill::primitive_of))]
 pub fn primitive(r: Raster, a: Vertex, b: Vertex, c: Vertex) -> Primitive
     ensures { result ≡ primitive_of r a b c }
 {
@@ -48,15 +56,10 @@ pub fn primitive(r: Raster, a: Vertex, b: Vertex, c: Vertex) -> Primitive
 }
 
 // The columns x0 to x1 of a row. Answers the number of pixels written so far, as all functions here do.
-fn fill_row(
+fn fill_row<P: Paint>(
     colors: &mut [u8],
     depths: &mut [f32],
-    store: &[u8],
-    table: &[f64; 128],
-    state: PipelineState,
-    stages: [TextureStage; 4],
-    count: usize,
-    textures: [Texture; 4],
+    paint: &P,
     t: Primitive,
     width: usize,
     x0: u32,
@@ -64,164 +67,156 @@ fn fill_row(
     py: u32,
     written: usize,
 ) -> usize
-    requires thresholds { Thresholds table.now }
-    requires stages_fit { StagesFit (length store.now) count stages textures }
+    requires paints { P.paints paint.now t }
     requires bounds { (x1 ≤ width) × (py < 4096) × (width ≤ 4096) × (written ≤ 900000000000) }
     requires lengths { (py * width + width ≤ length depths.old) × (length colors.old ≡ 4 * length depths.old) }
-    ensures drawn { drawn_to colors.new depths.new result ≡ row_of store.now (drawing state stages count textures) t width x0 x1 py (drawn_to colors.old depths.old written) }
+    ensures drawn { drawn_to colors.new depths.new result ≡ row_of (P.store paint.now) (P.drawing paint.now) t width x0 x1 py (drawn_to colors.old depths.old written) }
     ensures count { result ≤ written + 4096 }
 {
     let mut n = written;
     for px in x0..x1 {
-        n = pixels::draw_pixel(
-            colors, depths, store, table, state, stages, count, textures, t, width, py, px, n,
-        );
+        n = paint.draw_pixel(colors, depths, t, width, py, px, n);
     }
     n
 }
 
 // The box's rows, from the top.
-fn fill(
+pub fn fill<P: Paint>(
     colors: &mut [u8],
     depths: &mut [f32],
-    store: &[u8],
-    table: &[f64; 128],
-    state: PipelineState,
-    stages: [TextureStage; 4],
-    count: usize,
-    textures: [Texture; 4],
+    paint: &P,
     t: Primitive,
-    width: usize,
-    pixels: PixelBox,
+    region: Region,
     written: usize,
 ) -> usize
-    requires thresholds { Thresholds table.now }
-    requires stages_fit { StagesFit (length store.now) count stages textures }
-    requires bounds { (pixels.x1 ≤ width) × (pixels.y1 ≤ 4096) × (width ≤ 4096) × (written ≤ 800000000000) }
-    requires lengths { (pixels.y1 * width ≤ length depths.old) × (length colors.old ≡ 4 * length depths.old) }
-    ensures drawn { drawn_to colors.new depths.new result ≡ fill_of store.now (drawing state stages count textures) t width pixels (drawn_to colors.old depths.old written) }
+    requires paints { P.paints paint.now t }
+    requires bounds { written ≤ 800000000000 }
+    requires lengths { (region.pixels.y1 * region.width ≤ length depths.old) × (length colors.old ≡ 4 * length depths.old) }
+    ensures drawn { drawn_to colors.new depths.new result ≡ fill_of (P.store paint.now) (P.drawing paint.now) t region.width region.pixels (drawn_to colors.old depths.old written) }
     ensures count { result ≤ written + 16777216 }
 {
+    let Region { pixels, width } = region;
     let mut n = written;
     for py in pixels.y0..pixels.y1 {
-        n = fill_row(
-            colors, depths, store, table, state, stages, count, textures, t, width, pixels.x0,
-            pixels.x1, py, n,
-        );
+        n = fill_row(colors, depths, paint, t, width, pixels.x0, pixels.x1, py, n);
     }
     n
 }
 
+// A draw past its checks: its settings, and what it does with a triangle that is set up, for which it may choose another paint.
+pub trait Draw: Paint {
+    fn state(&self) -> PipelineState
+        ensures { result ≡ (Self.drawing self.now).state };
+
+    fn fill_triangle(
+        &self,
+        colors: &mut [u8],
+        depths: &mut [f32],
+        t: Primitive,
+        region: Region,
+        written: usize,
+    ) -> usize
+        requires bounds { written ≤ 800000000000 }
+        requires lengths { (region.pixels.y1 * region.width ≤ length depths.old) × (length colors.old ≡ 4 * length depths.old) }
+        ensures drawn { drawn_to colors.new depths.new result ≡ fill_of (Self.store self.now) (Self.drawing self.now) t region.width region.pixels (drawn_to colors.old depths.old written) }
+        ensures count { result ≤ written + 16777216 };
+}
+
+impl Draw for Staged<'_> {
+    fn state(&self) -> PipelineState {
+        self.state
+    }
+
+    fn fill_triangle(
+        &self,
+        colors: &mut [u8],
+        depths: &mut [f32],
+        t: Primitive,
+        region: Region,
+        written: usize,
+    ) -> usize {
+        fill(colors, depths, self, t, region, written)
+    }
+}
+
 // One triangle left by clipping.
-fn raster_clipped(
+fn raster_clipped<D: Draw>(
     colors: &mut [u8],
     depths: &mut [f32],
-    store: &[u8],
-    table: &[f64; 128],
-    state: PipelineState,
-    stages: [TextureStage; 4],
-    count: usize,
-    textures: [Texture; 4],
+    paint: &D,
     view: View,
-    within: PixelBox,
-    width: usize,
+    within: Region,
     a: Vertex,
     b: Vertex,
     c: Vertex,
     written: usize,
 ) -> usize
-    requires thresholds { Thresholds table.now }
-    requires stages_fit { StagesFit (length store.now) count stages textures }
-    requires bounds { (within.x1 ≤ width) × (within.y1 ≤ 4096) × (width ≤ 4096) × (written ≤ 800000000000) }
-    requires lengths { (within.y1 * width ≤ length depths.old) × (length colors.old ≡ 4 * length depths.old) }
-    ensures drawn { drawn_to colors.new depths.new result ≡ raster_of store.now (drawing state stages count textures) view within width (triangle_of a b c) (drawn_to colors.old depths.old written) }
+    requires bounds { written ≤ 800000000000 }
+    requires lengths { (within.pixels.y1 * within.width ≤ length depths.old) × (length colors.old ≡ 4 * length depths.old) }
+    ensures drawn { drawn_to colors.new depths.new result ≡ raster_of (D.store paint.now) (D.drawing paint.now) view within.pixels within.width (triangle_of a b c) (drawn_to colors.old depths.old written) }
     ensures count { result ≤ written + 16777216 }
 {
+    let state = paint.state();
     let range = state.depth_range;
     let front_face = state.front_face;
     let cull = state.cull;
-    let Setup::Draws(raster) = setup::setup_triangle(view, range, front_face, cull, within, a, b, c)
+    let Some(raster) = setup::setup_triangle(view, range, front_face, cull, within.pixels, a, b, c)
     else {
         return written;
     };
-    let pixels = raster.pixels;
+    let region = Region {
+        pixels: raster.pixels,
+        width: within.width,
+    };
     let t = primitive(raster, a, b, c);
-    fill(
-        colors, depths, store, table, state, stages, count, textures, t, width, pixels, written,
-    )
+    paint.fill_triangle(colors, depths, t, region, written)
 }
 
 // The fan of the polygon that clipping leaves.
-fn draw_fan(
+fn draw_fan<D: Draw>(
     colors: &mut [u8],
     depths: &mut [f32],
-    store: &[u8],
-    table: &[f64; 128],
-    state: PipelineState,
-    stages: [TextureStage; 4],
-    count: usize,
-    textures: [Texture; 4],
+    paint: &D,
     view: View,
-    within: PixelBox,
-    width: usize,
+    within: Region,
     a: Vertex,
     b: Vertex,
     c: Vertex,
 ) -> usize
-    requires thresholds { Thresholds table.now }
-    requires stages_fit { StagesFit (length store.now) count stages textures }
-    requires bounds { (within.x1 ≤ width) × (within.y1 ≤ 4096) × (width ≤ 4096) }
-    requires lengths { (within.y1 * width ≤ length depths.old) × (length colors.old ≡ 4 * length depths.old) }
-    ensures { drawn_to colors.new depths.new result ≡ draw_each (raster_of store.now (drawing state stages count textures) view within width) (fan_of (clipped (a ∷ b ∷ c ∷ []))) (drawn_to colors.old depths.old 0) }
+    requires { (within.pixels.y1 * within.width ≤ length depths.old) × (length colors.old ≡ 4 * length depths.old) }
+    ensures { drawn_to colors.new depths.new result ≡ draw_each (raster_of (D.store paint.now) (D.drawing paint.now) view within.pixels within.width) (fan_of (clipped (a ∷ b ∷ c ∷ []))) (drawn_to colors.old depths.old 0) }
 {
-    let mut polygon = [0.0f32; 714];
-    let corners = clip::clip_triangle(&mut polygon, a, b, c);
-    if corners < 3 {
+    let polygon = clip::clip_triangle(a, b, c);
+    let corners = polygon.corners();
+    if corners.len() < 3 {
         return 0;
     }
-    let first = polygon::corner(&polygon, 0);
+    let first = corners[0];
     let mut n: usize = 0;
-    for i in 1..corners - 1 {
-        let second = polygon::corner(&polygon, i);
-        let third = polygon::corner(&polygon, i + 1);
-        n = raster_clipped(
-            colors, depths, store, table, state, stages, count, textures, view, within, width,
-            first, second, third, n,
-        );
+    for i in 1..corners.len() - 1 {
+        let second = corners[i];
+        let third = corners[i + 1];
+        n = raster_clipped(colors, depths, paint, view, within, first, second, third, n);
     }
     n
 }
 
 // All that clipping leaves of a triangle, on a target so many pixels wide, in the pixels of a scissor's box.
-pub fn draw_left(
+pub fn draw_left<D: Draw>(
     colors: &mut [u8],
     depths: &mut [f32],
-    store: &[u8],
-    table: &[f64; 128],
-    state: PipelineState,
-    stages: [TextureStage; 4],
-    count: usize,
-    textures: [Texture; 4],
+    paint: &D,
     view: View,
-    within: PixelBox,
-    width: usize,
+    within: Region,
     a: Vertex,
     b: Vertex,
     c: Vertex,
 ) -> usize
-    requires thresholds { Thresholds table.now }
-    requires stages_fit { StagesFit (length store.now) count stages textures }
-    requires bounds { (within.x1 ≤ width) × (within.y1 ≤ 4096) × (width ≤ 4096) }
-    requires lengths { (within.y1 * width ≤ length depths.old) × (length colors.old ≡ 4 * length depths.old) }
-    ensures { drawn_to colors.new depths.new result ≡ left_drawn store.now (drawing state stages count textures) view within width a b c (drawn_to colors.old depths.old 0) }
+    requires { (within.pixels.y1 * within.width ≤ length depths.old) × (length colors.old ≡ 4 * length depths.old) }
+    ensures { drawn_to colors.new depths.new result ≡ left_drawn (D.store paint.now) (D.drawing paint.now) view within.pixels within.width a b c (drawn_to colors.old depths.old 0) }
 {
     if clip::all_inside(a, b, c) {
-        return raster_clipped(
-            colors, depths, store, table, state, stages, count, textures, view, within, width, a,
-            b, c, 0,
-        );
+        return raster_clipped(colors, depths, paint, view, within, a, b, c, 0);
     }
-    draw_fan(
-        colors, depths, store, table, state, stages, count, textures, view, within, width, a, b, c,
-    )
+    draw_fan(colors, depths, paint, view, within, a, b, c)
 }

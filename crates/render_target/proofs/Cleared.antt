@@ -1,8 +1,9 @@
 -- Filling the rows of the cut box leaves what the clear's definition says. Assumes nothing.
+use Rattle.std.specs.Prelude.{Option, Some, None}
 use Prim.Native.Nat.{ℕ, zero, suc, ◌+◌, ◌-◌, ◌*◌, ◌/◌, ◌%◌, ◌≤◌, ◌<◌}
 use mathlib.Core.Path.{◌≡◌, refl, sym, ap, ◌∙◌}
 use mathlib.Core.Bool.{Bool, true, false, cond, ◌&&◌, ◌||◌, or-false}
-use mathlib.Core.List.{List}
+use mathlib.Core.List.{List, [], ◌∷◌}
 use native.Mathlib.Omega.{arith}
 use native.Mathlib.Decide.{dec_lt}
 use native.Mathlib.Nat.{le_refl, mul-zero, mod-lt, div-add-mod', div-lt_iff_lt-mul, le-div_iff_mul-le}
@@ -10,16 +11,15 @@ use lib.Arith.{digits_div, digits_mod}
 use lib.Dec.{ltb, leb-zero}
 use lib.ListN.{length, get_or}
 use borrow.Author.Tests.{le-leb, lt-ltb, lt-leb, le-ltb}
-use Rattle.lists.specs.Lists.{turns, between}
+use Rattle.lists.specs.Lists.{tab, turns, between}
 use Rattle.lists.proofs.Tables.{length_tab}
 use Rattle.lists.proofs.Choice.{true_false}
-use Rattle.settings.specs.declared.Scissor.{Scissor}
-use Rattle.scissor.specs.declared.Bounds.{Bounds}
-use Rattle.scissor.specs.declared.Bounds.TheVariants.{Empty, Box}
 use Rattle.scissor.specs.Scissor.{pixel_in, bounds_of, in_bounds}
 use Rattle.render_target.specs.Clear.{cleared_of, span_of, rows_of}
 use Rattle.scissor.proofs.Boxes.{same_truth, both, split, span, in_span, to_span, bounds_are}
 use Rattle.render_target.proofs.Spans.{length_span, span_at, at_places, table_is}
+use Rattle.scissor.specs.declared.PixelBox.{PixelBox}
+use Rattle.settings.specs.declared.ScissorBox.{ScissorBox}
 
 -- k elements make a pixel: the elements of pixels a to e
 in_cells : (k a e i : ℕ) → 0 < k → span (a * k) (e * k) i ≡ span a e (i / k)
@@ -114,7 +114,7 @@ whole_rows k v z w y0 y1 l hk hy =
     (λ i j. sym (rows_place k v z w 0 w hk (le_refl w) y0 y1 l i hy j ∙ rw (in_whole w y0 y1 (i / k), ← in_cells k (y0 * w) (y1 * w) i hk)))
 
 -- what a clear leaves, place by place
-module _ {A : Type 0} (k : ℕ) (u : ℕ → A) (z : A) (w h : ℕ) (s : Scissor) (l : List A) where
+module _ {A : Type 0} (k : ℕ) (u : ℕ → A) (z : A) (w h : ℕ) (s : Option ScissorBox) (l : List A) where
   pub length_cleared : length (cleared_of k u z w h s l) ≡ length l
   unfolding cleared_of
   length_cleared = length_tab _ (length l)
@@ -124,16 +124,16 @@ module _ {A : Type 0} (k : ℕ) (u : ℕ → A) (z : A) (w h : ℕ) (s : Scissor
   cleared_at i h = at_places _ z l i h
 
   -- an empty box
-  pub cleared_none : Empty ≡ bounds_of w h s → l ≡ cleared_of k u z w h s l
+  pub cleared_none : None ≡ bounds_of w h s → l ≡ cleared_of k u z w h s l
   unfolding cleared_of
   cleared_none e =
       sym (table_is _ z l l refl
-      (λ i j. ap (λ (t : Bool). cond t (u (i % k)) (get_or l i z)) (sym (bounds_are w h s (i / k % w) (i / k / w)) ∙ ap (λ (b : Bounds). in_bounds b (i / k % w) (i / k / w)) (sym e))))
+      (λ i j. ap (λ (t : Bool). cond t (u (i % k)) (get_or l i z)) (sym (bounds_are w h s (i / k % w) (i / k / w)) ∙ ap (λ (b : Option PixelBox). in_bounds b (i / k % w) (i / k / w)) (sym e))))
 
   -- the rows of a box
-  module _ (x0 y0 x1 y1 : ℕ) (hk : 0 < k) (hx : x1 ≤ w) (hy : y0 ≤ y1) (e : Box x0 y0 x1 y1 ≡ bounds_of w h s) where
+  module _ (x0 y0 x1 y1 : ℕ) (hk : 0 < k) (hx : x1 ≤ w) (hy : y0 ≤ y1) (e : Some (record { x0 = x0; y0 = y0; x1 = x1; y1 = y1 }) ≡ bounds_of w h s) where
     in_box_at : (p : ℕ) → (span x0 x1 (p % w) && span y0 y1 (p / w)) ≡ pixel_in w h s p
-    in_box_at p = ap (λ (b : Bounds). in_bounds b (p % w) (p / w)) e ∙ bounds_are w h s (p % w) (p / w)
+    in_box_at p = ap (λ (b : Option PixelBox). in_bounds b (p % w) (p / w)) e ∙ bounds_are w h s (p % w) (p / w)
 
     rows_at : (i : ℕ) → i < length l → cond (pixel_in w h s (i / k)) (u (i % k)) (get_or l i z) ≡ get_or (rows_of k (λ i. u (i % k)) z w x0 y0 x1 y1 l) i z
     rows_at i j = sym (rows_place k (λ i. u (i % k)) z w x0 x1 hk hx y0 y1 l i hy j ∙ rw (in_box_at (i / k)))
@@ -141,3 +141,11 @@ module _ {A : Type 0} (k : ℕ) (u : ℕ → A) (z : A) (w h : ℕ) (s : Scissor
     pub rows_clear : rows_of k (λ i. u (i % k)) z w x0 y0 x1 y1 l ≡ cleared_of k u z w h s l
     unfolding cleared_of
     rows_clear = sym (table_is _ z l _ (rows_long k (λ i. u (i % k)) z w x0 x1 hk hx y0 y1 l) rows_at)
+
+-- one element a pixel
+pub cleared_one : {A : Type 0} (value z : A) (w h : ℕ) (s : Option ScissorBox) (l : List A)
+    → cleared_of 1 (λ c. get_or (value ∷ []) c z) z w h s l ≡ cleared_of 1 (λ c. value) z w h s l
+unfolding cleared_of
+cleared_one value z w h s l =
+    let m : (i : ℕ) → i % 1 ≡ 0 = λ i. omega arith in
+    λ t. tab (length l) (λ i. cond (pixel_in w h s (i / 1)) (get_or (value ∷ []) (m i t) z) (get_or l i z))

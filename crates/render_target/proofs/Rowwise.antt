@@ -1,9 +1,9 @@
 -- Rows of a box filled in turn: one row more, and what stands at each place in the end. Assumes nothing.
-use Prim.Native.Nat.{ℕ, ◌+◌, ◌-◌, ◌*◌, ◌≤◌, ◌<◌}
+use Prim.Native.Nat.{ℕ, ◌+◌, ◌*◌, ◌≤◌, ◌<◌}
 use mathlib.Core.Path.{◌≡◌, sym, ◌∙◌}
 use mathlib.Core.List.{List}
 use native.Mathlib.Omega.{arith}
-use native.Mathlib.Nat.{mul-one, suc-mul, mul-le-mul_right}
+use native.Mathlib.Nat.{suc-mul, mul-le-mul_right, mul-le-mul_left}
 use lib.ListN.{length}
 use Rattle.lists.proofs.Turns.{between_more, between_done}
 use Rattle.render_target.specs.Clear.{span_of, rows_of}
@@ -33,10 +33,10 @@ module _ {A : Type 0} {k : ℕ} {v : ℕ → A} {z : A} {w x0 x1 y1 : ℕ} {whol
   pub rows_end : y1 ≤ y → l ≡ whole
   rows_end h = sym (rows_done k v z w x0 x1 y1 l y h) ∙ now.rest
 
--- the same for one element a pixel
-pub row_of_ones : {A : Type 0} (v : ℕ → A) (z : A) (a e : ℕ) (l : List A) → span_of v z a e l ≡ span_of v z (a * 1) (e * 1) l
-row_of_ones v z a e l = rw (mul-one a, mul-one e)
-
 -- row y of y1 ends within them
 pub row_within : (w : ℕ) {y y1 : ℕ} → y < y1 → y * w + w ≤ y1 * w
 row_within w {y} h = omega (arith, suc-mul y w, mul-le-mul_right w h)
+
+-- and its end is no later than that of as many elements, k a pixel
+pub row_room : (w k : ℕ) {y y1 : ℕ} → 0 < k → y < y1 → y * w + w ≤ y1 * w * k
+row_room w k {y} {y1} i h = omega (arith, row_within w h, mul-le-mul_left (y1 * w) i)

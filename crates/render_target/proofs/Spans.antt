@@ -1,5 +1,5 @@
 -- Elements of a list filled from the front, and what stands at each place afterwards. Assumes nothing.
-use Prim.Native.Nat.{ℕ, suc, ◌+◌, ◌-◌, ◌*◌, ◌≤◌, ◌<◌}
+use Prim.Native.Nat.{ℕ, ◌+◌, ◌*◌, ◌≤◌, ◌<◌}
 use mathlib.Core.Path.{◌≡◌, refl, sym, ap, ◌∙◌}
 use mathlib.Core.Bool.{Bool, true, false, cond, ◌&&◌}
 use mathlib.Core.List.{List}
@@ -7,12 +7,13 @@ use native.Mathlib.Omega.{arith}
 use lib.Dec.{leb, ltb}
 use lib.ListN.{length, get_or, set, length-set}
 use lib.Seq.{ext_get_or, get_or-set_same, get_or-set_other}
+use native.Mathlib.Nat.{suc-mul, mul-le-mul_right}
 use lib.Arith.{lt_of_le-ne, digits_mod}
 use native.Mathlib.Decide.{ℕ_discrete}
 use borrow.Author.Tests.{leb-true, ltb-true, le-leb, lt-ltb}
 use Rattle.lists.specs.Lists.{tab}
 use Rattle.lists.proofs.Tables.{length_tab, get_or_tab}
-use Rattle.render_target.specs.Clear.{span_of, color_at}
+use Rattle.render_target.specs.Clear.{span_of, element_at}
 use Rattle.scissor.proofs.Boxes.{same_truth, split}
 
 -- a table over a list's places
@@ -66,34 +67,15 @@ module _ {A : Type 0} (v : ℕ → A) (z : A) (l : List A) where
       ext_get_or z (set (span_of v z a e l) e (v e)) (span_of v z a (e + 1) l) (long ∙ sym (length_span a (e + 1)))
       (λ i j. more_at a e i h k (rw long at j) (ℕ_discrete i e))
 
--- a pixel of four elements more
-module _ {A : Type 0} (v : ℕ → A) (z : A) (l : List A) (a e : ℕ) (h : a ≤ e) (k : e + 4 ≤ length l) where
-  next : (n : ℕ) → n < 4 → set (span_of v z a (e + n) l) (e + n) (v (e + n)) ≡ span_of v z a (e + suc n) l
-  next n i =
-      let m : e + n + 1 ≡ e + suc n = omega arith in
-      span_more v z l a (e + n) (omega arith) (omega arith) ∙ ap (λ (x : ℕ). span_of v z a x l) m
+-- element i of pixel p, of those before pixel e
+pub within : (k : ℕ) {p e i : ℕ} → p < e → i < k → p * k + i < e * k
+within k {p} h j = omega (arith, suc-mul p k, mul-le-mul_right k h)
 
-  pub four_more : {p q r s : A} → p ≡ v e → q ≡ v (e + 1) → r ≡ v (e + 2) → s ≡ v (e + 3)
-      → set (set (set (set (span_of v z a e l) e p) (e + 1) q) (e + 2) r) (e + 3) s ≡ span_of v z a (e + 4) l
-  four_more i j m n =
-      let one = span_more v z l a e h (omega arith) in
-      let two : set (span_of v z a (e + 1) l) (e + 1) (v (e + 1)) ≡ span_of v z a (e + 2) l = next 1 (omega arith) in
-      let three : set (span_of v z a (e + 2) l) (e + 2) (v (e + 2)) ≡ span_of v z a (e + 3) l = next 2 (omega arith) in
-      let four : set (span_of v z a (e + 3) l) (e + 3) (v (e + 3)) ≡ span_of v z a (e + 4) l = next 3 (omega arith) in
-      rw (i, j, m, n, one, two, three, four)
-
--- the bytes of a colour at pixel p
-pub color_at_is : (rgba : List ℕ) (p c : ℕ) → c < 4 → get_or rgba c 0 ≡ color_at rgba (p * 4 + c)
-color_at_is rgba p c h = ap (λ (n : ℕ). get_or rgba n 0) (sym (digits_mod p h))
-
-pub color_first : (rgba : List ℕ) (p : ℕ) → get_or rgba 0 0 ≡ color_at rgba (p * 4)
-color_first rgba p = let e : p * 4 + 0 ≡ p * 4 = omega arith in color_at_is rgba p 0 (omega arith) ∙ ap (color_at rgba) e
-
--- and all four of them
-pub pixel_more : (rgba l : List ℕ) (a p : ℕ) → a ≤ p → (p + 1) * 4 ≤ length l
-    → set (set (set (set (span_of (color_at rgba) 0 (a * 4) (p * 4) l) (p * 4) (get_or rgba 0 0)) (p * 4 + 1) (get_or rgba 1 0)) (p * 4 + 2) (get_or rgba 2 0)) (p * 4 + 3) (get_or rgba 3 0) ≡ span_of (color_at rgba) 0 (a * 4) ((p + 1) * 4) l
-pixel_more rgba l a p h k =
-    let e : p * 4 + 4 ≡ (p + 1) * 4 = omega arith in
-    four_more (color_at rgba) 0 l (a * 4) (p * 4) (omega arith) (omega arith)
-    (color_first rgba p) (color_at_is rgba p 1 (omega arith)) (color_at_is rgba p 2 (omega arith)) (color_at_is rgba p 3 (omega arith))
-    ∙ ap (λ (x : ℕ). span_of (color_at rgba) 0 (a * 4) x l) e
+-- that element more
+pub element_more : {A : Type 0} (k : ℕ) (value : List A) (z : A) (l : List A) (a p i : ℕ) → i < k → a ≤ p → p * k + i < length l
+    → set (span_of (element_at k value z) z (a * k) (p * k + i) l) (p * k + i) (get_or value i z) ≡ span_of (element_at k value z) z (a * k) (p * k + (i + 1)) l
+element_more k value z l a p i h j n =
+    let v = element_at k value z in
+    let e : get_or value i z ≡ v (p * k + i) = ap (λ (x : ℕ). get_or value x z) (sym (digits_mod p h)) in
+    let m : p * k + i + 1 ≡ p * k + (i + 1) = omega arith in
+    rw e (span_more v z l (a * k) (p * k + i) (omega (arith, mul-le-mul_right k j)) n) ∙ ap (λ (x : ℕ). span_of v z (a * k) x l) m

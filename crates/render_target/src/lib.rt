@@ -1,148 +1,64 @@
 // Clears of a render target (raster.rs, RenderTarget).
 #![tactic(auto)]
 
-ghost use Rattle.std.specs.Prelude.{◌≡◌, ◌*◌, ◌≤◌, length, get_or};
-ghost use Rattle.std.specs.Float.{nan};
-ghost use Rattle.answers.specs.Numbers.{number_of};
-ghost use Rattle.render_target.specs.Clear.{span_of, rows_of, color_at, cleared_of};
+ghost use Rattle.std.specs.Prelude.{◌≡◌, ◌*◌, ◌<◌, ◌≤◌, length, get_or};
+ghost use Rattle.answers.specs.Results.{answer_number};
+ghost use Rattle.render_target.specs.Clear.{span_of, rows_of, element_at, cleared_of};
 ghost use Rattle.render_target.specs.Clear.{clear_color_check, clear_depth_check, clear_color_of, clear_depth_of};
 
-use answers::{Answer, Refusal};
-use scissor::Bounds;
-use settings::Scissor;
+use answers::Refusal;
+use scissor::PixelBox;
+use settings::ScissorBox;
 
-fn fill_depths(depths: &mut [f32], from: usize, to: usize, value: f32)
-    requires { (from ≤ to) × (to ≤ length depths.old) }
-    ensures { depths.new ≡ span_of (λ i. value) nan from to depths.old }
+// The pixels from `from` to `to`, of K elements each.
+fn fill<T: Copy, const K: usize>(items: &mut [T], from: usize, to: usize, value: [T; K])
+    requires { (from ≤ to) × (to * K ≤ length items.old) }
+    ensures { (z : T) → items.new ≡ span_of (element_at K value z) z (from * K) (to * K) items.old }
 {
-    for i in from..to {
-        depths[i] = value;
+    // Kept: indices: `copy_from_slice` tests each pixel for overlap, by which a clear of depths takes four times as long.
+    for pixel in from..to {
+        for i in 0..K {
+            items[pixel * K + i] = value[i];
+        }
     }
 }
 
-fn clear_depth_rows(
-    depths: &mut [f32],
-    width: usize,
-    x0: usize,
-    y0: usize,
-    x1: usize,
-    y1: usize,
-    value: f32,
-)
-    requires { (x0 ≤ x1) × (x1 ≤ width) × (y1 * width ≤ length depths.old) }
-    ensures { depths.new ≡ rows_of 1 (λ i. value) nan width x0 y0 x1 y1 depths.old }
+fn fill_rows<T: Copy, const K: usize>(items: &mut [T], width: usize, b: PixelBox, value: [T; K])
+    requires { (0 < K) × (b.x0 ≤ b.x1) × (b.x1 ≤ width) × (b.y1 * width * K ≤ length items.old) }
+    ensures { (z : T) → items.new ≡ rows_of K (element_at K value z) z width b.x0 b.y0 b.x1 b.y1 items.old }
 {
-    for y in y0..y1 {
-        let first = y * width;
-        fill_depths(depths, first + x0, first + x1, value);
-    }
-}
-
-// The box's rows, at once where they are whole rows of the target.
-fn clear_depth_area(
-    depths: &mut [f32],
-    width: usize,
-    x0: usize,
-    y0: usize,
-    x1: usize,
-    y1: usize,
-    value: f32,
-)
-    requires { (x0 ≤ x1) × (x1 ≤ width) × (y0 ≤ y1) × (y1 * width ≤ length depths.old) }
-    ensures { depths.new ≡ rows_of 1 (λ i. value) nan width x0 y0 x1 y1 depths.old }
-{
-    if x1 - x0 == width {
-        fill_depths(depths, y0 * width, y1 * width, value);
-        return;
-    }
-    clear_depth_rows(depths, width, x0, y0, x1, y1, value);
-}
-
-fn clear_depth_box(depths: &mut [f32], width: u32, height: u32, value: f32, scissor: Scissor)
-    requires { length depths.old ≡ width * height }
-    ensures { depths.new ≡ cleared_of 1 (λ c. value) nan width height scissor depths.old }
-{
-    let Bounds::Box { x0, y0, x1, y1 } = scissor::scissor_bounds(width, height, scissor) else {
-        return;
-    };
-    clear_depth_area(
-        depths,
-        width as usize,
-        x0 as usize,
-        y0 as usize,
-        x1 as usize,
-        y1 as usize,
-        value,
-    );
-}
-
-fn fill_colors(colors: &mut [u8], from: usize, to: usize, rgba: [u8; 4])
-    requires { (from ≤ to) × (to * 4 ≤ length colors.old) }
-    ensures { colors.new ≡ span_of (color_at rgba) 0 (from * 4) (to * 4) colors.old }
-{
-    for p in from..to {
-        let i = p * 4;
-        colors[i] = rgba[0];
-        colors[i + 1] = rgba[1];
-        colors[i + 2] = rgba[2];
-        colors[i + 3] = rgba[3];
-    }
-}
-
-fn clear_color_rows(
-    colors: &mut [u8],
-    width: usize,
-    x0: usize,
-    y0: usize,
-    x1: usize,
-    y1: usize,
-    rgba: [u8; 4],
-)
-    requires { (x0 ≤ x1) × (x1 ≤ width) × (y1 * width * 4 ≤ length colors.old) }
-    ensures { colors.new ≡ rows_of 4 (color_at rgba) 0 width x0 y0 x1 y1 colors.old }
-{
-    for y in y0..y1 {
+    for y in b.y0 as usize..b.y1 as usize {
         let row = y * width;
-        fill_colors(colors, row + x0, row + x1, rgba);
+        fill(items, row + b.x0 as usize, row + b.x1 as usize, value);
     }
 }
 
 // The box's rows, at once where they are whole rows of the target.
-fn clear_color_area(
-    colors: &mut [u8],
-    width: usize,
-    x0: usize,
-    y0: usize,
-    x1: usize,
-    y1: usize,
-    rgba: [u8; 4],
-)
-    requires { (x0 ≤ x1) × (x1 ≤ width) × (y0 ≤ y1) × (y1 * width * 4 ≤ length colors.old) }
-    ensures { colors.new ≡ rows_of 4 (color_at rgba) 0 width x0 y0 x1 y1 colors.old }
+fn fill_box<T: Copy, const K: usize>(items: &mut [T], width: usize, b: PixelBox, value: [T; K])
+    requires { (0 < K) × (b.x0 ≤ b.x1) × (b.x1 ≤ width) × (b.y0 ≤ b.y1) × (b.y1 * width * K ≤ length items.old) }
+    ensures { (z : T) → items.new ≡ rows_of K (element_at K value z) z width b.x0 b.y0 b.x1 b.y1 items.old }
 {
-    if x1 - x0 == width {
-        fill_colors(colors, y0 * width, y1 * width, rgba);
-        return;
+    if (b.x1 - b.x0) as usize == width {
+        fill(items, b.y0 as usize * width, b.y1 as usize * width, value);
+    } else {
+        fill_rows(items, width, b, value);
     }
-    clear_color_rows(colors, width, x0, y0, x1, y1, rgba);
 }
 
-fn clear_color_box(colors: &mut [u8], width: u32, height: u32, rgba: [u8; 4], scissor: Scissor)
-    requires { length colors.old ≡ 4 * (width * height) }
-    ensures { colors.new ≡ cleared_of 4 (λ c. get_or rgba c 0) 0 width height scissor colors.old }
+// The pixels in the scissor box.
+fn clear<T: Copy, const K: usize>(
+    items: &mut [T],
+    width: u32,
+    height: u32,
+    value: [T; K],
+    scissor: Option<ScissorBox>,
+)
+    requires { (0 < K) × (length items.old ≡ K * (width * height)) }
+    ensures { (z : T) → items.new ≡ cleared_of K (λ c. get_or value c z) z width height scissor items.old }
 {
-    let Bounds::Box { x0, y0, x1, y1 } = scissor::scissor_bounds(width, height, scissor) else {
-        return;
-    };
-    clear_color_area(
-        colors,
-        width as usize,
-        x0 as usize,
-        y0 as usize,
-        x1 as usize,
-        y1 as usize,
-        rgba,
-    );
+    if let Some(b) = scissor::scissor_bounds(width, height, scissor) {
+        fill_box(items, width as usize, b, value);
+    }
 }
 
 // Clears the colours in the scissor box.
@@ -152,19 +68,19 @@ pub fn clear_color(
     width: u32,
     height: u32,
     rgba: [u8; 4],
-    scissor: Scissor,
-) -> Answer
-    ensures answer { number_of result ≡ clear_color_check width height (length colors.old) depths_len scissor }
+    scissor: Option<ScissorBox>,
+) -> Result<(), Refusal>
+    ensures answer { answer_number result ≡ clear_color_check width height (length colors.old) depths_len scissor }
     ensures colors_after { colors.new ≡ clear_color_of width height depths_len rgba scissor colors.old }
 {
     if !scissor::target_fits(width, height, colors.len(), depths_len) {
-        return Answer::Refused(Refusal::Target);
+        return Err(Refusal::Target);
     }
     if !scissor::scissor_fits(scissor) {
-        return Answer::Refused(Refusal::Scissor);
+        return Err(Refusal::Scissor);
     }
-    clear_color_box(colors, width, height, rgba, scissor);
-    Answer::Done
+    clear(colors, width, height, rgba, scissor);
+    Ok(())
 }
 
 // Clears the depths in the scissor box.
@@ -174,20 +90,20 @@ pub fn clear_depth(
     width: u32,
     height: u32,
     value: f32,
-    scissor: Scissor,
-) -> Answer
-    ensures answer { number_of result ≡ clear_depth_check width height colors_len (length depths.old) value scissor }
+    scissor: Option<ScissorBox>,
+) -> Result<(), Refusal>
+    ensures answer { answer_number result ≡ clear_depth_check width height colors_len (length depths.old) value scissor }
     ensures depths_after { depths.new ≡ clear_depth_of width height colors_len value scissor depths.old }
 {
     if !scissor::target_fits(width, height, colors_len, depths.len()) {
-        return Answer::Refused(Refusal::Target);
+        return Err(Refusal::Target);
     }
     if !scissor::scissor_fits(scissor) {
-        return Answer::Refused(Refusal::Scissor);
+        return Err(Refusal::Scissor);
     }
     if !floats::is_bounded(value) {
-        return Answer::Refused(Refusal::Float);
+        return Err(Refusal::Float);
     }
-    clear_depth_box(depths, width, height, value, scissor);
-    Answer::Done
+    clear(depths, width, height, [value], scissor);
+    Ok(())
 }

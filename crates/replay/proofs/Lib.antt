@@ -1,2 +1,2 @@
-pub mod Sums
+pub mod Consumed
 pub mod Words

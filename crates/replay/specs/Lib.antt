@@ -1,1 +1,5 @@
+pub mod Calls
+pub mod Entries
+pub mod Items
 pub mod Record
+pub mod Text

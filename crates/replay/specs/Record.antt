@@ -1,6 +1,7 @@
 -- Counting the answers of a record, and its checksum.
-use Rattle.std.specs.Prelude.{ℕ, ◌+◌, ◌*◌, ◌%◌, ◌^◌, Bool, true, false, cond, List, [], ◌∷◌, length, slice_index, Float}
+use Rattle.std.specs.Prelude.{ℕ, ◌+◌, ◌*◌, ◌%◌, ◌^◌, Bool, false, cond, List, length, slice_index, Float}
 use Rattle.std.specs.Float.Ieee as Ieee
+use Rattle.std.specs.List.{fold}
 use Rattle.floats.specs.Num.{◌⊘◌, zero32, one32}
 use Rattle.replay.specs.declared.Tally.{Tally}
 
@@ -9,21 +10,16 @@ unfoldable pub step_of : ℕ → ℕ → ℕ
 step_of s v = ((s % 4294967291) * 257 + v % 4294967291 + 1) % 4294967291
 
 -- the checksum after a list of bytes
-unfoldable pub sum_of : ℕ → List ℕ → ℕ
-sum_of s [] = s
-sum_of s (b ∷ l) = sum_of (step_of s b) l
+abbrev pub sum_of : ℕ → List ℕ → ℕ
+sum_of s l = fold step_of s l
 
 abbrev pub start_of : Tally
-start_of = record { more = true; right = 0; answers = 0; bytes = 0; sum = 0 }
-
-abbrev pub ended_of : Tally → Tally
-ended_of t = record { more = false; right = t.right; answers = t.answers; bytes = t.bytes; sum = t.sum }
+start_of = record { right = 0; answers = 0; bytes = 0; sum = 0 }
 
 -- one entry more: its length counts as 4 bytes, and is summed before them
 unfoldable pub told_of : Tally → List ℕ → Bool → Tally
 told_of t entry right =
     record {
-      more = t.more;
       right = (t.right + cond right 1 0) % 2 ^ 64;
       answers = (t.answers + 1) % 2 ^ 64;
       bytes = (t.bytes + (length entry + 4) % 2 ^ 64) % 2 ^ 64;

@@ -2,45 +2,25 @@
 // A record is a list of entries: a length in 4 bytes, little-endian, and that many bytes.
 #![tactic(auto)]
 
-ghost use Rattle.std.specs.Prelude.{◌≡◌, ◌<◌, if◌then◌else◌};
+ghost use Rattle.std.specs.Prelude.{◌≡◌, ℕ, ◌+◌, ◌≤◌, ◌↔◌, nat_eq, Some, length, slice_index, slice_get, IfSome, IsTrue, EachIndex, List, Bool};
 ghost use Rattle.std.specs.Float.Ieee as Ieee;
 ghost use Rattle.std.specs.Float.{binary32};
-ghost use Rattle.io.specs.Counts.{IsPrefixLen};
-ghost use Rattle.replay.specs.Record.{step_of, sum_of, byte_or0, word16_of, word32_of, word64_of, same_zero_of, same_of, start_of, ended_of, told_of};
+ghost use Rattle.replay.specs.Record.{step_of, sum_of, byte_or0, word16_of, word32_of, word64_of, same_zero_of, same_of, told_of};
+ghost use Rattle.replay.specs.Text.{tally_text};
+ghost use Rattle.replay.specs.Entries.{ConsumesEntry};
+ghost use Rattle.replay.specs.Calls.{IsTallyOfRecord};
+ghost use Rattle.replay.specs.Items.{place_of};
 
-// Whether the record goes on, how many answers were right, how many there were, the bytes read and their checksum.
-#[derive(Clone, Copy)]
+use std::fmt;
+use std::io::{Input, Print, Read};
+
+// How many answers were right, how many there were, the bytes read and their checksum.
+#[derive(Clone, Copy, Debug, Default, PartialEq, Eq)]
 pub struct Tally {
-    pub more: bool,
     pub right: u64,
     pub answers: u64,
     pub bytes: u64,
     pub sum: u64,
-}
-
-pub fn start() -> Tally
-    ensures { result ≡ start_of }
-{
-    Tally {
-        more: true,
-        right: 0,
-        answers: 0,
-        bytes: 0,
-        sum: 0,
-    }
-}
-
-// The record has ended.
-pub fn ended(t: Tally) -> Tally
-    ensures { result ≡ ended_of t }
-{
-    Tally {
-        more: false,
-        right: t.right,
-        answers: t.answers,
-        bytes: t.bytes,
-        sum: t.sum,
-    }
 }
 
 // One more number under the checksum.
@@ -50,124 +30,126 @@ fn step(sum: u64, value: u64) -> u64
     ((sum % 4294967291) * 257 + value % 4294967291 + 1) % 4294967291
 }
 
-fn wide(b: u8) -> u64
-    ensures { result ≡ b }
-{
-    b as u64
-}
-
 pub fn sum_bytes(sum: u64, bytes: &[u8]) -> u64
     ensures { result ≡ sum_of sum bytes.now }
 {
-    let mut s = sum;
-    let mut i = 0;
-    while i < bytes.len() {
-        s = step(s, wide(bytes[i]));
-        i += 1;
-    }
-    s
+    bytes.iter().fold(sum, |s, b| step(s, u64::from(*b)))
 }
 
-fn one_if(right: bool) -> u64
-    ensures { result ≡ (if right then 1 else 0) }
-{
-    if right { 1 } else { 0 }
-}
-
-// An entry was read, and its answer was right or not.
-pub fn told(t: Tally, entry: &[u8], right: bool) -> Tally
-    ensures { result ≡ told_of t entry.now right }
-{
-    let n = entry.len() as u64;
-    Tally {
-        more: t.more,
-        right: std::num::wrapping_add_u64(t.right, one_if(right)),
-        answers: std::num::wrapping_add_u64(t.answers, 1),
-        bytes: std::num::wrapping_add_u64(t.bytes, std::num::wrapping_add_u64(n, 4)),
-        sum: sum_bytes(step(t.sum, n), entry),
+impl Tally {
+    // An entry was read, and its answer was right or not.
+    pub fn told(self, entry: &[u8], right: bool) -> Tally
+        ensures { result ≡ told_of self entry.now right }
+    {
+        let n = entry.len() as u64;
+        Tally {
+            right: self.right.wrapping_add(u64::from(right)),
+            answers: self.answers.wrapping_add(1),
+            bytes: self.bytes.wrapping_add(n.wrapping_add(4)),
+            sum: sum_bytes(step(self.sum, n), entry),
+        }
     }
 }
 
-// Reads the next entry to the start of `entry`, and answers how many bytes it has: 0 where the record ends or has none that fits.
-pub fn next(entry: &mut [u8]) -> usize
-    ensures { IsPrefixLen result entry.new }
+impl fmt::Display for Tally {
+    ghost output = { λ t. Some (tally_text t) };
+
+    fn fmt<W: fmt::Write>(&self, f: &mut fmt::Formatter<W>) -> fmt::Result {
+        let Tally {
+            right,
+            answers,
+            bytes,
+            sum,
+        } = *self;
+        write!(
+            f,
+            "right {right} of {answers}\nbytes {bytes}\nchecksum {sum}"
+        )
+    }
+}
+
+// Reads the next entry to the start of `buffer`: none where the record ends, or has none that fits.
+pub fn next<'a, R: Read>(input: &mut R, buffer: &'a mut [u8]) -> Option<&'a [u8]>
+    ensures within { IfSome result (λ entry. length entry.now ≤ length buffer.old) }
+    ensures bytes { IfSome result
+        (λ entry. ConsumesEntry (R.remaining input.old) entry.now (R.remaining input.new)) }
 {
     let mut head = [0u8; 4];
-    if io::read_full(0, &mut head) != 4 {
-        return 0;
+    input.read_exact(&mut head).ok()?;
+    let n = u32::from_le_bytes(head) as usize;
+    if n == 0 || buffer.len() < n {
+        return None;
     }
-    let n = u32_at(&head, 0) as usize;
-    if entry.len() < n {
-        return 0;
+    let entry = &mut buffer[..n];
+    input.read_exact(entry).ok()?;
+    Some(entry)
+}
+
+// Tallies the entries of a record, each judged by `is_right`.
+pub fn run<R: Read, F: FnMut(&[u8]) -> bool>(
+    input: &mut R,
+    buffer: &mut [u8],
+    mut is_right: F,
+) -> Tally
+    requires { F.IsAlwaysCallable is_right }
+    ensures { IsTallyOfRecord F.FnMut (R.remaining input.old) is_right result }
+{
+    let mut tally = Tally::default();
+    // A proved loop has to end, and nothing says that the input does.
+    for _ in 0..u64::MAX {
+        let Some(entry) = next(input, buffer) else {
+            break;
+        };
+        tally = tally.told(entry, is_right(entry));
     }
-    if io::read_full(0, &mut entry[..n]) != n {
-        return 0;
-    }
-    io::count(n as isize, entry)
+    tally
+}
+
+// Replays the record on standard input, and prints its tally. A tally that cannot be printed is passed over.
+pub fn replay<F: FnMut(&[u8]) -> bool>(rt: &(impl Input + Print), is_right: F)
+    requires { F.IsAlwaysCallable is_right }
+{
+    let mut buffer = [0u8; 65536];
+    let _ = println!(rt; "{}", run(&mut rt.reader(), &mut buffer, is_right));
 }
 
 // The byte at an index, 0 past the end.
 pub fn byte_at(b: &[u8], at: usize) -> u8
     ensures { result ≡ byte_or0 b.now at }
 {
-    if at < b.len() { b[at] } else { 0 }
+    b.get(at).copied().unwrap_or(0)
+}
+
+// The N bytes from an index on; those past the end are 0.
+pub fn bytes_at<const N: usize>(b: &[u8], at: usize) -> [u8; N]
+    ensures { EachIndex result (λ k. slice_index result k ≡ byte_or0 b.now (at + k)) }
+{
+    let mut bytes = [0; N];
+    for (k, byte) in bytes.iter_mut().enumerate() {
+        *byte = byte_at(b, at.saturating_add(k));
+    }
+    bytes
 }
 
 // A number of 2 bytes, the low one first; bytes past the end are 0.
 pub fn u16_at(b: &[u8], at: usize) -> u16
     ensures { result ≡ word16_of b.now at }
 {
-    if b.len() <= at {
-        return 0;
-    }
-    wide16(byte_at(b, at)) + 256 * wide16(byte_at(b, at + 1))
-}
-
-fn wide16(b: u8) -> u16
-    ensures value { result ≡ b }
-    ensures upper_bound { result < 256 }
-{
-    b as u16
-}
-
-fn wide32(n: u16) -> u32
-    ensures value { result ≡ n }
-    ensures upper_bound { result < 65536 }
-{
-    n as u32
+    u16::from_le_bytes(bytes_at(b, at))
 }
 
 // A number of 4 bytes, the low one first; bytes past the end are 0.
 pub fn u32_at(b: &[u8], at: usize) -> u32
     ensures { result ≡ word32_of b.now at }
 {
-    if b.len() <= at {
-        return 0;
-    }
-    if b.len() - at <= 2 {
-        return wide32(u16_at(b, at));
-    }
-    wide32(u16_at(b, at)) + 65536 * wide32(u16_at(b, at + 2))
-}
-
-fn wide64(n: u32) -> u64
-    ensures value { result ≡ n }
-    ensures upper_bound { result < 4294967296 }
-{
-    n as u64
+    u32::from_le_bytes(bytes_at(b, at))
 }
 
 // A number of 8 bytes, the low one first; bytes past the end are 0.
 pub fn u64_at(b: &[u8], at: usize) -> u64
     ensures { result ≡ word64_of b.now at }
 {
-    if b.len() <= at {
-        return 0;
-    }
-    if b.len() - at <= 4 {
-        return wide64(u32_at(b, at));
-    }
-    wide64(u32_at(b, at)) + 4294967296 * wide64(u32_at(b, at + 4))
+    u64::from_le_bytes(bytes_at(b, at))
 }
 
 // A float by its bits.
@@ -181,13 +163,11 @@ pub fn f32_at(b: &[u8], at: usize) -> f32
 fn same_zero(a: f32, b: f32) -> bool
     ensures { result ≡ same_zero_of a b }
 {
-    if b == 0.0 {
-        return 1.0 / a == 1.0 / b;
-    }
-    false
+    b == 0.0 && 1.0 / a == 1.0 / b
 }
 
 // Whether two floats are the same: NaN is NaN, and a zero has its sign.
+// Kept: the bits tell NaNs apart, and std's total order asks that there is none.
 pub fn same(a: f32, b: f32) -> bool
     ensures { result ≡ same_of a b }
 {
@@ -200,15 +180,82 @@ pub fn same(a: f32, b: f32) -> bool
     a == b
 }
 
-// Prints how many answers were right, the byte count and the checksum.
-pub fn print(t: Tally) {
-    io::write_all(1, b"right ");
-    io::print_decimal(1, t.right);
-    io::write_all(1, b" of ");
-    io::print_decimal(1, t.answers);
-    io::write_all(1, b"\nbytes ");
-    io::print_decimal(1, t.bytes);
-    io::write_all(1, b"\nchecksum ");
-    io::print_decimal(1, t.sum);
-    io::write_all(1, b"\n");
+// What stands one after another in an entry: bytes, and floats by their bits.
+pub trait Item: Copy {
+    ghost SIZE: { ℕ };
+
+    ghost item_of: { List ℕ → ℕ → Self };
+
+    ghost same_item_of: { Self → Self → Bool };
+
+    // How many bytes one takes.
+    const SIZE: usize;
+
+    fn at(b: &[u8], at: usize) -> Self
+        ensures { result ≡ item_of b.now at };
+
+    fn is_same(self, other: Self) -> bool
+        ensures { result ≡ same_item_of self other };
+}
+
+impl Item for u8 {
+    ghost SIZE = { 1 };
+
+    ghost item_of = { byte_or0 };
+
+    ghost same_item_of = { nat_eq };
+
+    const SIZE: usize = 1;
+
+    fn at(b: &[u8], at: usize) -> u8 {
+        byte_at(b, at)
+    }
+
+    fn is_same(self, other: u8) -> bool {
+        self == other
+    }
+}
+
+impl Item for f32 {
+    ghost SIZE = { 4 };
+
+    ghost item_of = { λ l i. Ieee.of_bits binary32 (word32_of l i) };
+
+    ghost same_item_of = { same_of };
+
+    const SIZE: usize = 4;
+
+    fn at(b: &[u8], at: usize) -> f32 {
+        f32_at(b, at)
+    }
+
+    fn is_same(self, other: f32) -> bool {
+        same(self, other)
+    }
+}
+
+// Where item i of those from `at` on stands: at most the largest index, which is past every end.
+fn place<T: Item>(at: usize, i: usize) -> usize
+    ensures { result ≡ place_of at T.SIZE i }
+{
+    at.saturating_add(i.saturating_mul(T::SIZE))
+}
+
+// Reads the items from `at` on.
+pub fn load<T: Item>(out: &mut [T], b: &[u8], at: usize)
+    ensures { EachIndex out.new (λ i. slice_get out.new i ≡ Some (T.item_of b.now (place_of at T.SIZE i))) }
+{
+    for (i, item) in out.iter_mut().enumerate() {
+        *item = T::at(b, place::<T>(at, i));
+    }
+}
+
+// Whether the items from `at` on are those found.
+pub fn are_same<T: Item>(found: &[T], b: &[u8], at: usize) -> bool
+    ensures { IsTrue result ↔ ((i : ℕ) (x : T) → slice_get found.now i ≡ Some x → IsTrue (T.same_item_of x (T.item_of b.now (place_of at T.SIZE i)))) }
+{
+    found
+        .iter()
+        .enumerate()
+        .all(|(i, x)| x.is_same(T::at(b, place::<T>(at, i))))
 }

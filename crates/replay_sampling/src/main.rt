@@ -8,8 +8,8 @@ ghost use Rattle.std.specs.Prelude.{◌<◌};
 
 use levels::{Filter, MinFilter, MipLevel, Texture, Wrap};
 use mipmaps::Coordinates;
-use replay::Tally;
-use sampler::{SampleAnswer, Texel};
+use sampler::Texel;
+use std::array;
 
 // The bytes of an entry before its store.
 const HEAD: usize = 228;
@@ -27,58 +27,37 @@ fn level_from(entry: &[u8], k: usize) -> MipLevel
 }
 
 fn levels_from(entry: &[u8]) -> [MipLevel; 11] {
-    [
-        level_from(entry, 0),
-        level_from(entry, 1),
-        level_from(entry, 2),
-        level_from(entry, 3),
-        level_from(entry, 4),
-        level_from(entry, 5),
-        level_from(entry, 6),
-        level_from(entry, 7),
-        level_from(entry, 8),
-        level_from(entry, 9),
-        level_from(entry, 10),
-    ]
+    array::from_fn(|k| level_from(entry, k))
 }
 
 fn wrap_from(n: u32) -> Wrap {
-    if n == 0 {
-        return Wrap::Repeat;
+    match n {
+        0 => Wrap::Repeat,
+        _ => Wrap::ClampToEdge,
     }
-    Wrap::ClampToEdge
 }
 
 fn filter_from(n: u32) -> Filter {
-    if n == 0 {
-        return Filter::Nearest;
+    match n {
+        0 => Filter::Nearest,
+        _ => Filter::Linear,
     }
-    Filter::Linear
 }
 
 fn min_from(n: u32) -> MinFilter {
-    if n == 0 {
-        return MinFilter::Nearest;
+    match n {
+        0 => MinFilter::Nearest,
+        1 => MinFilter::Linear,
+        2 => MinFilter::NearestMipmapNearest,
+        3 => MinFilter::LinearMipmapNearest,
+        4 => MinFilter::NearestMipmapLinear,
+        _ => MinFilter::LinearMipmapLinear,
     }
-    if n == 1 {
-        return MinFilter::Linear;
-    }
-    if n == 2 {
-        return MinFilter::NearestMipmapNearest;
-    }
-    if n == 3 {
-        return MinFilter::LinearMipmapNearest;
-    }
-    if n == 4 {
-        return MinFilter::NearestMipmapLinear;
-    }
-    MinFilter::LinearMipmapLinear
 }
 
 fn texture_from(entry: &[u8]) -> Texture {
-    let levels = levels_from(entry);
     Texture {
-        levels,
+        levels: levels_from(entry),
         max_mipmap_level: replay::u32_at(entry, 176) as usize,
         min_filter: min_from(replay::u32_at(entry, 180)),
         mag_filter: filter_from(replay::u32_at(entry, 184)),
@@ -99,16 +78,7 @@ fn coordinates_from(entry: &[u8]) -> Coordinates {
 }
 
 fn is_texel(x: Texel, entry: &[u8]) -> bool {
-    if x.r != replay::byte_at(entry, 224) {
-        return false;
-    }
-    if x.g != replay::byte_at(entry, 225) {
-        return false;
-    }
-    if x.b != replay::byte_at(entry, 226) {
-        return false;
-    }
-    x.a == replay::byte_at(entry, 227)
+    [x.r, x.g, x.b, x.a] == replay::bytes_at(entry, 224)
 }
 
 fn is_right(entry: &[u8]) -> bool {
@@ -119,37 +89,11 @@ fn is_right(entry: &[u8]) -> bool {
     let texture = texture_from(entry);
     let p = coordinates_from(entry);
     match sampler::sample(&entry[HEAD..], texture, p) {
-        SampleAnswer::Sampled(s) => {
-            if answer != 0 {
-                return false;
-            }
-            is_texel(s.texel, entry)
-        }
-        SampleAnswer::Refused(why) => why.number() == answer,
+        Ok(x) => answer == 0 && is_texel(x, entry),
+        Err(why) => why.number() == answer,
     }
 }
 
-fn turn(buffer: &mut [u8], t: Tally) -> Tally {
-    let n = replay::next(buffer);
-    if n == 0 {
-        return replay::ended(t);
-    }
-    let right = is_right(&buffer[..n]);
-    replay::told(t, &buffer[..n], right)
-}
-
-// A proved loop has to end, and nothing says that the input does: the loop counts its turns down.
-fn run(buffer: &mut [u8]) -> Tally {
-    let mut t = replay::start();
-    let mut turns = u64::MAX;
-    while turns > 0 && t.more {
-        t = turn(buffer, t);
-        turns -= 1;
-    }
-    t
-}
-
-fn main() {
-    let mut buffer = io::large_buffer();
-    replay::print(run(&mut buffer));
+fn main(rt: HostRuntime) {
+    replay::replay(&rt, is_right);
 }

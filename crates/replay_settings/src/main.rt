@@ -1,29 +1,18 @@
-#![tactic(auto)]
-
-ghost use Rattle.std.specs.Prelude.{◌<◌};
 // Replays the Rust's answers to the steps of a fragment, and to the codes of comparisons and factors.
 // An entry: the step's number, two codes (4 bytes each), three colours and the answer's four floats by their bits (4 bytes each);
 // for steps 7 and 8 a code and the number that reading it answers.
-use replay::Tally;
-use settings::{
-    BlendFactor, CompareFunc, PipelineState, ReadCompare, ReadFactor, Rgba, TexEnvMode,
-    TextureStage,
-};
+#![tactic(auto)]
+
+ghost use Rattle.std.specs.Prelude.{◌<◌};
+
+use settings::{BlendFactor, CompareFunc, PipelineState, Rgba, TexEnvMode, TextureStage};
 
 fn compare(code: u32) -> CompareFunc {
-    let read = CompareFunc::from_enum(code);
-    match read {
-        ReadCompare::Is(f) => f,
-        ReadCompare::Refused(_) => CompareFunc::Never,
-    }
+    CompareFunc::try_from(code).unwrap_or(CompareFunc::Never)
 }
 
 fn factor(code: u32) -> BlendFactor {
-    let read = BlendFactor::from_enum(code);
-    match read {
-        ReadFactor::Is(f) => f,
-        ReadFactor::Refused(_) => BlendFactor::Zero,
-    }
+    BlendFactor::try_from(code).unwrap_or(BlendFactor::Zero)
 }
 
 fn environment(code: u32) -> TexEnvMode {
@@ -48,16 +37,10 @@ fn color_at(entry: &[u8], at: usize) -> Rgba
 }
 
 fn same(a: Rgba, b: Rgba) -> bool {
-    if !replay::same(a.r, b.r) {
-        return false;
-    }
-    if !replay::same(a.g, b.g) {
-        return false;
-    }
-    if !replay::same(a.b, b.b) {
-        return false;
-    }
-    replay::same(a.a, b.a)
+    replay::same(a.r, b.r)
+        && replay::same(a.g, b.g)
+        && replay::same(a.b, b.b)
+        && replay::same(a.a, b.a)
 }
 
 // A number as the first of four floats.
@@ -70,21 +53,14 @@ fn alone(x: f32) -> Rgba {
     }
 }
 
-fn truth(t: bool) -> f32 {
-    if t { 1.0 } else { 0.0 }
-}
-
-fn byte(b: u8) -> f32 {
-    b as f32
-}
-
 fn with_fog(a: Rgba, color: Rgba) -> PipelineState {
-    let mut s = PipelineState::new();
-    s.fog = true;
-    s.fog_start = a.r;
-    s.fog_end = a.g;
-    s.fog_color = color;
-    s
+    PipelineState {
+        fog: true,
+        fog_start: a.r,
+        fog_end: a.g,
+        fog_color: color,
+        ..PipelineState::new()
+    }
 }
 
 fn stage(code: u32, color: Rgba) -> TextureStage {
@@ -102,7 +78,7 @@ fn masked(code: u32, a: Rgba, stored: u8) -> u8 {
 // The steps 0 to 5.
 fn step(n: u8, code: u32, other: u32, a: Rgba, b: Rgba, c: Rgba) -> Rgba {
     match n {
-        0 => alone(truth(compare(code).test(a.r, a.g))),
+        0 => alone(f32::from(u8::from(compare(code).test(a.r, a.g)))),
         1 => factor(code).resolve(a, b),
         2 => fragment::blend(factor(code), factor(other), a, b),
         3 => fragment::apply_tex_env(stage(code, a), b, c),
@@ -116,16 +92,16 @@ fn is_right(entry: &[u8]) -> bool {
     let code = replay::u32_at(entry, 1);
     let other = replay::u32_at(entry, 5);
     if n == 7 {
-        return CompareFunc::from_enum(code).number() == other;
+        return answers::number(CompareFunc::try_from(code)) == other;
     }
     if n == 8 {
-        return BlendFactor::from_enum(code).number() == other;
+        return answers::number(BlendFactor::try_from(code)) == other;
     }
     let a = color_at(entry, 9);
     let answer = color_at(entry, 57);
     if n == 6 {
         let stored = replay::byte_at(entry, 13);
-        return same(alone(byte(masked(code, a, stored))), answer);
+        return same(alone(f32::from(masked(code, a, stored))), answer);
     }
     same(
         step(n, code, other, a, color_at(entry, 25), color_at(entry, 41)),
@@ -133,27 +109,6 @@ fn is_right(entry: &[u8]) -> bool {
     )
 }
 
-fn turn(buffer: &mut [u8], t: Tally) -> Tally {
-    let n = replay::next(buffer);
-    if n == 0 {
-        return replay::ended(t);
-    }
-    let right = is_right(&buffer[..n]);
-    replay::told(t, &buffer[..n], right)
-}
-
-// A proved loop has to end, and nothing says that the input does: the loop counts its turns down.
-fn run(buffer: &mut [u8]) -> Tally {
-    let mut t = replay::start();
-    let mut turns = u64::MAX;
-    while turns > 0 && t.more {
-        t = turn(buffer, t);
-        turns -= 1;
-    }
-    t
-}
-
-fn main() {
-    let mut buffer = io::large_buffer();
-    replay::print(run(&mut buffer));
+fn main(rt: HostRuntime) {
+    replay::replay(&rt, is_right);
 }

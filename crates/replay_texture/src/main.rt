@@ -3,57 +3,33 @@
 // store's length (4); the answer; the checksums of the record's layout and of the store after the call (4 each); the layout before it (244).
 #![tactic(auto)]
 
-ghost use Rattle.std.specs.Prelude.{◌<◌};
-
-use answers::Answer;
+use answers::Refusal;
 use levels::Texture;
-use replay::Tally;
-
-fn wide(b: u8) -> u32
-    ensures { result < 256 }
-{
-    b as u32
-}
-
-fn low(n: u32) -> u8 {
-    (n % 256) as u8
-}
 
 // The bytes first, first + step, first + 2 step, .. modulo 256.
 fn fill(out: &mut [u8], first: u8, step: u8) {
-    let mut v = wide(first);
-    let mut i = 0;
-    while i < out.len() {
-        out[i] = low(v);
-        v = (v % 256) + wide(step);
-        i += 1;
+    let mut next = first;
+    for b in out.iter_mut() {
+        *b = next;
+        next = next.wrapping_add(step);
     }
 }
 
-fn put_layout(record: &mut [u8; 244], entry: &[u8]) {
-    for i in 0..244 {
-        record[i] = replay::byte_at(entry, 47 + i);
+// The number of what a call answers; the record's layout is rewritten where it is done.
+fn write_back(record: &mut [u8; 244], answer: Result<Texture, Refusal>) -> u32 {
+    if let Ok(texture) = answer {
+        layouts::write_record(record, texture);
     }
-}
-
-fn number(record: &mut [u8; 244], answer: Answer, texture: Texture) -> u32 {
-    match answer {
-        Answer::Refused(why) => why.number(),
-        Answer::Done => {
-            layouts::write_record(record, texture);
-            0
-        }
-    }
+    answers::number(answer)
 }
 
 fn define(
-    record: &mut [u8; 244],
     store: &mut [u8],
     image: &[u8],
     entry: &[u8],
     texture: Texture,
-) -> u32 {
-    let defined = texture::define_level(
+) -> Result<Texture, Refusal> {
+    texture::define_level(
         store,
         texture,
         replay::u32_at(entry, 1),
@@ -61,13 +37,10 @@ fn define(
         replay::u32_at(entry, 9),
         replay::u64_at(entry, 21) as usize,
         image,
-    );
-    let answer = defined.answer;
-    let next = defined.texture;
-    number(record, answer, next)
+    )
 }
 
-fn patch(store: &mut [u8], image: &[u8], entry: &[u8], texture: Texture) -> u32 {
+fn patch(store: &mut [u8], image: &[u8], entry: &[u8], texture: Texture) -> Result<(), Refusal> {
     texture::patch_level(
         store,
         texture,
@@ -78,87 +51,45 @@ fn patch(store: &mut [u8], image: &[u8], entry: &[u8], texture: Texture) -> u32 
         replay::u32_at(entry, 17),
         image,
     )
-    .number()
 }
 
-fn set(record: &mut [u8; 244], entry: &[u8], texture: Texture) -> u32 {
-    let set = texture::set_parameter(texture, replay::u32_at(entry, 1), replay::u32_at(entry, 5));
-    let answer = set.answer;
-    let next = set.texture;
-    number(record, answer, next)
+fn set(entry: &[u8], texture: Texture) -> Result<Texture, Refusal> {
+    texture::set_parameter(texture, replay::u32_at(entry, 1), replay::u32_at(entry, 5))
 }
 
 fn call(record: &mut [u8; 244], store: &mut [u8], image: &[u8], entry: &[u8]) -> u32 {
-    let read = layouts::read_record(record);
-    if !read.known {
+    let Some(texture) = layouts::read_record(record) else {
         return 255;
+    };
+    match replay::byte_at(entry, 0) {
+        0 => write_back(record, define(store, image, entry, texture)),
+        1 => answers::number(patch(store, image, entry, texture)),
+        _ => write_back(record, set(entry, texture)),
     }
-    let texture = read.texture;
-    let kind = replay::byte_at(entry, 0);
-    if kind == 0 {
-        return define(record, store, image, entry, texture);
-    }
-    if kind == 1 {
-        return patch(store, image, entry, texture);
-    }
-    set(record, entry, texture)
-}
-
-fn sum_of_record(record: &[u8; 244]) -> u64 {
-    replay::sum_bytes(0, record)
 }
 
 // The call on a store and an image of the entry's lengths: its number, and the checksums of what it leaves.
 fn is_call_right(store: &mut [u8], image: &mut [u8], entry: &[u8]) -> bool {
-    let mut record = [0u8; 244];
-    put_layout(&mut record, entry);
+    let mut record = replay::bytes_at(entry, 47);
     fill(store, 3, 7);
     fill(image, replay::byte_at(entry, 33), 13);
     let number = call(&mut record, store, image, entry);
-    if number != wide(replay::byte_at(entry, 38)) {
-        return false;
-    }
-    if replay::sum_bytes(0, store) != replay::u32_at(entry, 43) as u64 {
-        return false;
-    }
-    sum_of_record(&record) == replay::u32_at(entry, 39) as u64
+    number == u32::from(replay::byte_at(entry, 38))
+        && replay::sum_bytes(0, store) == u64::from(replay::u32_at(entry, 43))
+        && replay::sum_bytes(0, &record) == u64::from(replay::u32_at(entry, 39))
 }
 
 fn is_right(entry: &[u8], store: &mut [u8], image: &mut [u8]) -> bool {
     let n = replay::u32_at(entry, 34) as usize;
     let m = replay::u32_at(entry, 29) as usize;
-    if store.len() < n {
+    let (Some(store), Some(image)) = (store.get_mut(..n), image.get_mut(..m)) else {
         return false;
-    }
-    if image.len() < m {
-        return false;
-    }
-    is_call_right(&mut store[..n], &mut image[..m], entry)
+    };
+    is_call_right(store, image, entry)
 }
 
-fn turn(buffer: &mut [u8], store: &mut [u8], image: &mut [u8], t: Tally) -> Tally {
-    let n = replay::next(buffer);
-    if n == 0 {
-        return replay::ended(t);
-    }
-    let right = is_right(&buffer[..n], store, image);
-    replay::told(t, &buffer[..n], right)
-}
-
-// A proved loop has to end, and nothing says that the input does: the loop counts its turns down.
-fn run(buffer: &mut [u8], store: &mut [u8], image: &mut [u8]) -> Tally {
-    let mut t = replay::start();
-    let mut turns = u64::MAX;
-    while turns > 0 && t.more {
-        t = turn(buffer, store, image, t);
-        turns -= 1;
-    }
-    t
-}
-
-fn main() {
-    let mut buffer = io::large_buffer();
+fn main(rt: HostRuntime) {
     let mut store = [0u8; 1000];
     let mut image = [0u8; 8448];
-    replay::print(run(&mut buffer, &mut store, &mut image));
+    replay::replay(&rt, |entry| is_right(entry, &mut store, &mut image));
 }

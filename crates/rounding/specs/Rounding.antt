@@ -1,9 +1,8 @@
--- Rust's floor, ceil and round of an f32, and the signed whole numbers that its casts make.
-use Rattle.std.specs.Prelude.{ℕ, zero, suc, ◌+◌, ◌-◌, ◌*◌, ◌/◌, ◌^◌, min, Bool, cond, ℤ, pos, negsuc, Float}
+-- Rust's floor, ceil and round of an f32, and one more than a signed whole number.
+use Rattle.std.specs.Prelude.{ℕ, zero, suc, ◌+◌, ◌-◌, ◌*◌, ◌/◌, ◌^◌, ◌<◌, min, Bool, true, false, cond, ℤ, pos, negsuc, Float}
 use Rattle.std.specs.Float.Ieee as Ieee
 use Rattle.std.specs.Float.{nan, inf, fin, binary32}
 use Rattle.std.specs.Float.Ieee.{up, down}
-use Rattle.rounding.specs.declared.Whole.{Whole}
 
 -- a / b, rounded up, and to the nearest with a half up
 abbrev pub up_div : ℕ → ℕ → ℕ
@@ -30,12 +29,15 @@ ceil_of = whole_by (λ s. cond s ◌/◌ up_div)
 unfoldable pub round_of : Float → Float
 round_of = whole_by (λ s. half_div)
 
--- what a Whole stands for: n, or -1 - n
-abbrev pub number_of : Whole → ℤ
-number_of w = cond w.below (negsuc w.n) (pos w.n)
-
 -- document 01, Corners: one more, up to the largest number of h bits and a sign
 unfoldable pub next_of : ℕ → ℤ → ℤ
 next_of h (pos n) = pos (min (n + 1) (2 ^ h - 1))
 next_of h (negsuc zero) = pos 0
 next_of h (negsuc (suc n)) = negsuc n
+
+-- from 0 up to 2 ^ w: its whole part has w bits
+abbrev pub Part : ℕ → Float → Type 0
+Part w nan = ⊥
+Part w (inf s) = ⊥
+Part w (fin true m e) = ⊥
+Part w (fin false m e) = m * up e < 2 ^ w * down e

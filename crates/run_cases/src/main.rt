@@ -6,8 +6,8 @@ mod lines;
 mod target;
 mod triangles;
 
-fn main() {
-    decode::run();
-    target::run();
-    triangles::run();
+fn main(rt: HostRuntime) {
+    decode::run(&rt);
+    target::run(&rt);
+    triangles::run(&rt);
 }

@@ -1,8 +1,8 @@
 // The worked runs of document 01: triangles that share an edge, a fan with a corner that cannot be divided, and the largest sides.
 use crate::lines;
-use draw::DrawAnswer;
+use answers::Refusal;
 use levels::{MipLevel, Texture};
-use settings::{PipelineState, Rgba, Scissor, TexEnvMode, TextureStage, Viewport};
+use settings::{PipelineState, Rgba, TexEnvMode, TextureStage, Viewport};
 use vertices::Vertex;
 
 fn corner(x: f32, y: f32, z: f32, w: f32) -> Vertex {
@@ -44,15 +44,16 @@ fn settings(width: i32, height: i32, depth_test: bool) -> PipelineState {
     s
 }
 
-fn tell(name: &[u8], answer: DrawAnswer) {
+fn tell(rt: &impl Print, name: &str, answer: Result<usize, Refusal>) {
     match answer {
-        DrawAnswer::Drew(n) => lines::drew(name, n as u64),
-        DrawAnswer::Refused(why) => lines::refused(name, why.number()),
+        Ok(n) => lines::drew(rt, name, n),
+        Err(why) => lines::refused(rt, name, why.number()),
     }
 }
 
 fn plain(
-    name: &[u8],
+    rt: &impl Print,
+    name: &str,
     colors: &mut [u8],
     depths: &mut [f32],
     width: u32,
@@ -70,18 +71,18 @@ fn plain(
     let answer = draw::draw_triangle(
         colors, depths, width, height, &store, units, s, stages, 0, a, b, c,
     );
-    tell(name, answer);
+    tell(rt, name, answer);
 }
 
-fn two_triangles(depth_test: bool) {
+fn two_triangles(rt: &impl Print, depth_test: bool) {
     let mut colors = [0u8; 16];
     let mut depths = [0.0f32; 4];
-    let whole = Scissor::Whole;
-    let cleared = render_target::clear_depth(&mut depths, 16, 2, 2, 1.0, whole);
-    lines::told(b"clear depth", 2, 2, cleared.number());
+    let cleared = render_target::clear_depth(&mut depths, 16, 2, 2, 1.0, None);
+    lines::told(rt, "clear depth", 2, 2, answers::number(cleared));
     let s = settings(2, 2, depth_test);
     plain(
-        b"lower left half",
+        rt,
+        "lower left half",
         &mut colors,
         &mut depths,
         2,
@@ -91,9 +92,10 @@ fn two_triangles(depth_test: bool) {
         corner(1.0, -1.0, 0.0, 1.0),
         corner(-1.0, 1.0, 0.0, 1.0),
     );
-    lines::says(b"depth 0.5 at the lower left pixel", depths[2] == 0.5);
+    lines::says(rt, "depth 0.5 at the lower left pixel", depths[2] == 0.5);
     plain(
-        b"upper right half",
+        rt,
+        "upper right half",
         &mut colors,
         &mut depths,
         2,
@@ -105,11 +107,12 @@ fn two_triangles(depth_test: bool) {
     );
 }
 
-fn undivided_corner() {
+fn undivided_corner(rt: &impl Print) {
     let mut colors = [0u8; 256];
     let mut depths = [0.0f32; 64];
     plain(
-        b"a corner with w 0 on 8 by 8",
+        rt,
+        "a corner with w 0 on 8 by 8",
         &mut colors,
         &mut depths,
         8,
@@ -121,11 +124,12 @@ fn undivided_corner() {
     );
 }
 
-fn wide_target() {
+fn wide_target(rt: &impl Print) {
     let mut colors = [0u8; 16384];
     let mut depths = [0.0f32; 4096];
     plain(
-        b"target side 4096",
+        rt,
+        "target side 4096",
         &mut colors,
         &mut depths,
         4096,
@@ -137,11 +141,12 @@ fn wide_target() {
     );
 }
 
-fn wider_target() {
+fn wider_target(rt: &impl Print) {
     let mut colors = [0u8; 16388];
     let mut depths = [0.0f32; 4097];
     plain(
-        b"target side 4097",
+        rt,
+        "target side 4097",
         &mut colors,
         &mut depths,
         4097,
@@ -153,7 +158,7 @@ fn wider_target() {
     );
 }
 
-fn textured(name: &[u8], store: &[u8], side: u32) {
+fn textured(rt: &impl Print, name: &str, store: &[u8], side: u32) {
     let mut colors = [0u8; 16];
     let mut depths = [0.0f32; 4];
     let mut x = Texture::new();
@@ -182,20 +187,20 @@ fn textured(name: &[u8], store: &[u8], side: u32) {
         corner(1.0, -1.0, 0.0, 1.0),
         corner(-1.0, 1.0, 0.0, 1.0),
     );
-    tell(name, answer);
+    tell(rt, name, answer);
 }
 
-fn sides() {
+fn sides(rt: &impl Print) {
     let store = [7u8; 4100];
-    textured(b"texture side 1024", &store, 1024);
-    textured(b"texture side 1025", &store, 1025);
+    textured(rt, "texture side 1024", &store, 1024);
+    textured(rt, "texture side 1025", &store, 1025);
 }
 
-pub fn run() {
-    two_triangles(false);
-    two_triangles(true);
-    undivided_corner();
-    wide_target();
-    wider_target();
-    sides();
+pub fn run(rt: &impl Print) {
+    two_triangles(rt, false);
+    two_triangles(rt, true);
+    undivided_corner(rt);
+    wide_target(rt);
+    wider_target(rt);
+    sides(rt);
 }

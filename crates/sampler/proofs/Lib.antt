@@ -3,4 +3,4 @@ pub mod Parts
 pub mod Records
 pub mod Chosen
 pub mod Addresses
-pub mod Lent
+pub mod Turns

@@ -1,6 +1,6 @@
 -- A texture's level as the code reads it from the record's array: level 0's flag apart, it is `level_of`. Assumes nothing.
-use Prim.Native.Nat.{ℕ, zero, suc, ◌+◌, ◌*◌, ◌≤◌, ◌<◌}
-use mathlib.Core.Path.{◌≡◌, refl, sym, ap, subst, ◌∙◌}
+use Prim.Native.Nat.{ℕ, zero, suc, ◌+◌, ◌≤◌, ◌<◌}
+use mathlib.Core.Path.{◌≡◌, refl, ap, subst, ◌∙◌}
 use mathlib.Core.Bool.{Bool, true, false, cond}
 use mathlib.Core.List.{List}
 use native.Mathlib.Omega.{arith}
@@ -16,9 +16,8 @@ use Rattle.levels.specs.declared.Filter.{Filter}
 use Rattle.levels.specs.declared.Filter.TheVariants.{Nearest, Linear}
 use Rattle.levels.specs.Levels.{level_at, absent, levels_of, level_of, size_of, complete, Fits, valid_of}
 use Rattle.levels.proofs.Valid.{valid_level, valid_chain, valid_top_in, complete_present, complete_wide, complete_high}
-use Rattle.sampler.specs.declared.Texel.{Texel}
 use Rattle.sampler.specs.Addresses.{texel_addresses, nearest_addresses, linear_addresses, filter_addresses, bytes_at}
-use Rattle.sampler.specs.Samples.{filter_texel, level_texel, places_of, sides_of, Readable}
+use Rattle.sampler.specs.Samples.{filter_texel, level_texel, Readable}
 
 -- what hangs on the place and the sides alone
 by_fields : (P : MipLevel → Type 0) → ((m : MipLevel) → P (level_at m.place m.width m.height) → P m) → (x : Texture) (k : ℕ) → P (level_of x k) → P (get_or x.levels k absent)
@@ -34,17 +33,23 @@ unfolding size_of
 moved n m f = record { wide = f.wide; high = f.high; within = f.within }
 
 module _ (n : ℕ) (x : Texture) (r : Readable n x) (k : ℕ) (h : k ≤ x.max_mipmap_level) where
+  pub level_in : k < 11
+  level_in = omega (arith, r.few)
+
   whole_level : complete (level_of x k) ≡ true
   whole_level = valid_chain n x r.valid r.whole k h
 
-  pub level_fits : Fits n (get_or x.levels k absent)
+  level_fits : Fits n (get_or x.levels k absent)
   level_fits = by_fields (λ (m : MipLevel). Fits n m) (moved n) x k (valid_level n x r.valid k (complete_present (level_of x k) whole_level))
 
-  pub level_wide : 0 < (get_or x.levels k absent).width
+  level_wide : 0 < (get_or x.levels k absent).width
   level_wide = by_fields (λ (m : MipLevel). 0 < m.width) (λ m z. z) x k (complete_wide (level_of x k) whole_level)
 
-  pub level_high : 0 < (get_or x.levels k absent).height
+  level_high : 0 < (get_or x.levels k absent).height
   level_high = by_fields (λ (m : MipLevel). 0 < m.height) (λ m z. z) x k (complete_high (level_of x k) whole_level)
+
+  pub level_ready : Fits n (get_or x.levels k absent) × (0 < (get_or x.levels k absent).width) × (0 < (get_or x.levels k absent).height)
+  level_ready = (level_fits, level_wide, level_high)
 
 module _ (store : List ℕ) (ws wt : Wrap) (s t : Float) where
   flagless : (f : Filter) (m : MipLevel) → filter_texel f m s t (bytes_at store (filter_addresses f m ws wt s t))
@@ -59,52 +64,6 @@ unfolding level_texel
 level_sample store x k f s t =
     by_fields (λ (m : MipLevel). filter_texel f m s t (bytes_at store (filter_addresses f m x.wrap_s x.wrap_t s t)) ≡ level_texel store x k f s t)
     (λ m e. flagless store x.wrap_s x.wrap_t s t f m ∙ e) x k refl
-
--- ---- a level from what is lent
-each : (P : ℕ → Type 0) → P 0 → P 1 → P 2 → P 3 → P 4 → P 5 → P 6 → P 7 → P 8 → P 9 → P 10 → (k : ℕ) → k < 11 → P k
-each P a b c d e f g h i j l zero z = a
-each P a b c d e f g h i j l (suc zero) z = b
-each P a b c d e f g h i j l (suc (suc zero)) z = c
-each P a b c d e f g h i j l (suc (suc (suc zero))) z = d
-each P a b c d e f g h i j l (suc (suc (suc (suc zero)))) z = e
-each P a b c d e f g h i j l (suc (suc (suc (suc (suc zero))))) z = f
-each P a b c d e f g h i j l (suc (suc (suc (suc (suc (suc zero)))))) z = g
-each P a b c d e f g h i j l (suc (suc (suc (suc (suc (suc (suc zero))))))) z = h
-each P a b c d e f g h i j l (suc (suc (suc (suc (suc (suc (suc (suc zero)))))))) z = i
-each P a b c d e f g h i j l (suc (suc (suc (suc (suc (suc (suc (suc (suc zero))))))))) z = j
-each P a b c d e f g h i j l (suc (suc (suc (suc (suc (suc (suc (suc (suc (suc zero)))))))))) z = l
-each P a b c d e f g h i j l (suc (suc (suc (suc (suc (suc (suc (suc (suc (suc (suc k))))))))))) z = absurd (omega arith)
-
-abbrev kept : MipLevel → MipLevel
-kept m = level_at m.place m.width m.height
-
-lent_at : (l : List MipLevel) (k : ℕ) → k < 11 → level_at (get_or (places_of l) k 0) (get_or (sides_of l) (k * 2) 0) (get_or (sides_of l) (k * 2 + 1) 0) ≡ kept (get_or l k absent)
-unfolding places_of sides_of
-lent_at l = each (λ (k : ℕ). level_at (get_or (places_of l) k 0) (get_or (sides_of l) (k * 2) 0) (get_or (sides_of l) (k * 2 + 1) 0) ≡ kept (get_or l k absent)) refl refl refl refl refl refl refl refl refl refl refl
-
-kept_fits : (n : ℕ) (m : MipLevel) → Fits n m → Fits n (kept m)
-unfolding size_of
-kept_fits n m f = record { wide = f.wide; high = f.high; within = f.within }
-
-module _ (n : ℕ) (x : Texture) (r : Readable n x) (k : ℕ) (h : k ≤ x.max_mipmap_level) where
-  pub level_in : k < 11
-  level_in = omega (arith, r.few)
-
-  module _ (places sides : List ℕ) (p : places ≡ places_of x.levels) (q : sides ≡ sides_of x.levels) (m : MipLevel) (e : m ≡ level_at (get_or places k 0) (get_or sides (k * 2) 0) (get_or sides (k * 2 + 1) 0)) where
-    lent : m ≡ kept (get_or x.levels k absent)
-    lent = e ∙ rw (p, q) (lent_at x.levels k level_in)
-
-    pub lent_ready : Fits n m × (0 < m.width) × (0 < m.height)
-    lent_ready =
-        subst (λ (z : MipLevel). Fits n z × (0 < z.width) × (0 < z.height)) (sym lent)
-        (kept_fits n (get_or x.levels k absent) (level_fits n x r k h), level_wide n x r k h, level_high n x r k h)
-
-pub lent_sample : (store : List ℕ) (x : Texture) (r : Readable (length store) x) (k : ℕ) (h : k ≤ x.max_mipmap_level) (places sides : List ℕ) → places ≡ places_of x.levels → sides ≡ sides_of x.levels
-    → (m : MipLevel) → m ≡ level_at (get_or places k 0) (get_or sides (k * 2) 0) (get_or sides (k * 2 + 1) 0)
-    → (f : Filter) (s t : Float) (a : Texel) → a ≡ filter_texel f m s t (bytes_at store (filter_addresses f m x.wrap_s x.wrap_t s t)) → a ≡ level_texel store x k f s t
-lent_sample store x r k h places sides p q m e f s t a z =
-    z ∙ ap (λ (j : MipLevel). filter_texel f j s t (bytes_at store (filter_addresses f j x.wrap_s x.wrap_t s t))) (lent (length store) x r k h places sides p q m e)
-    ∙ sym (flagless store x.wrap_s x.wrap_t s t f (get_or x.levels k absent)) ∙ level_sample store x k f s t
 
 -- ---- level 0
 pub no_width : (x : Texture) → (get_or x.levels 0 absent).width ≡ 0 → complete (level_of x 0) ≡ false

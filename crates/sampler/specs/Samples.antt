@@ -1,20 +1,18 @@
 -- A sample: the texel from the bytes at its addresses.
-use Rattle.std.specs.Prelude.{ℕ, ◌+◌, ◌*◌, ◌≤◌, ◌<◌, ◌≡◌, true, cond, List, [], ◌∷◌, eqb, length, get_or, take, drop, Float}
+use Rattle.std.specs.Prelude.{ℕ, ◌+◌, ◌*◌, ◌≤◌, ◌<◌, ◌≡◌, true, cond, List, eqb, length, take, drop, Float, Result, Ok, Err}
+use Rattle.answers.specs.declared.Refusal.{Refusal}
 use Rattle.answers.specs.Numbers.{refusal_number}
 use Rattle.levels.specs.declared.MipLevel.{MipLevel}
 use Rattle.levels.specs.declared.Texture.{Texture}
 use Rattle.levels.specs.declared.Filter.{Filter}
 use Rattle.levels.specs.declared.Filter.TheVariants.{Nearest, Linear}
-use Rattle.levels.specs.Levels.{absent, level_at, level_of, complete, valid_of}
+use Rattle.levels.specs.Levels.{level_of, complete, valid_of}
 use Rattle.levels.specs.declared.Wrap.{Wrap}
 use Rattle.coords.specs.Coords.{wrap_coord, first_of, second_of, weight_of}
 use Rattle.mipmaps.specs.declared.Chosen.{Chosen}
 use Rattle.mipmaps.specs.declared.Chosen.TheVariants.{One, Two}
 use Rattle.mipmaps.specs.declared.Coordinates.{Coordinates}
 use Rattle.sampler.specs.declared.Texel.{Texel}
-use Rattle.sampler.specs.declared.Sampled.{Sampled}
-use Rattle.sampler.specs.declared.SampleAnswer.{SampleAnswer}
-use Rattle.sampler.specs.declared.SampleAnswer.TheVariants as Answer
 use Rattle.sampler.specs.Texels.{texel_at, white, linear_texel, part_of, mix_texel}
 use Rattle.sampler.specs.Addresses.{index_of, filter_addresses, levels_for, addresses_of, bytes_at}
 
@@ -60,9 +58,6 @@ texel_from x p b = cond (complete (level_of x 0)) (chosen_texel x (levels_for x 
 unfoldable pub sample_of : List ℕ → Texture → Coordinates → Texel
 sample_of store x p = texel_from x p (bytes_at store (addresses_of x p))
 
-unfoldable pub sampled_of : List ℕ → Texture → Coordinates → Sampled
-sampled_of store x p = record { texel = sample_of store x p }
-
 -- ---- the operation
 
 -- Document 01, Sample: 8
@@ -74,9 +69,9 @@ pub data Outcome : Type 0 where
   refused : ℕ → Outcome
   sampled : Texel → Outcome
 
-abbrev pub outcome_of : SampleAnswer → Outcome
-outcome_of (Answer.Refused why) = refused (refusal_number why)
-outcome_of (Answer.Sampled s) = sampled s.texel
+abbrev pub outcome_of : Result Texel Refusal → Outcome
+outcome_of (Err why) = refused (refusal_number why)
+outcome_of (Ok x) = sampled x
 
 unfoldable pub sample_call : List ℕ → Texture → Coordinates → Outcome
 sample_call store x p = cond (eqb (sample_check (length store) x) 0) (sampled (sample_of store x p)) (refused (sample_check (length store) x))
@@ -110,24 +105,3 @@ pub record Readable (n : ℕ) (x : Texture) : Type 0 where
 
 unfoldable pub level_texel : List ℕ → Texture → ℕ → Filter → Float → Float → Texel
 level_texel store x k f s t = filter_texel f (level_of x k) s t (bytes_at store (filter_addresses f (level_of x k) x.wrap_s x.wrap_t s t))
-
--- ---- what a draw lends of a record's levels
-
--- the place of each level
-unfoldable pub places_of : List MipLevel → List ℕ
-places_of l =
-    (get_or l 0 absent).place ∷ (get_or l 1 absent).place ∷ (get_or l 2 absent).place ∷ (get_or l 3 absent).place ∷ (get_or l 4 absent).place ∷ (get_or l 5 absent).place ∷ (get_or l 6 absent).place
-    ∷ (get_or l 7 absent).place ∷ (get_or l 8 absent).place ∷ (get_or l 9 absent).place ∷ (get_or l 10 absent).place ∷ []
-
--- the width and the height of one level before those of the next
-abbrev sides_at : List MipLevel → ℕ → List ℕ → List ℕ
-sides_at l k rest = (get_or l k absent).width ∷ (get_or l k absent).height ∷ rest
-
-unfoldable pub sides_of : List MipLevel → List ℕ
-sides_of l =
-    sides_at l 0 (sides_at l 1 (sides_at l 2 (sides_at l 3 (sides_at l 4 (sides_at l 5 (sides_at l 6 (sides_at l 7 (sides_at l 8 (sides_at l 9 (sides_at l 10 []))))))))))
-
--- a level's texel from what is lent
-unfoldable pub lent_texel : List ℕ → List ℕ → List ℕ → Wrap → Wrap → ℕ → Filter → Float → Float → Texel
-lent_texel store places sides ws wt k f s t =
-    let m = level_at (get_or places k 0) (get_or sides (k * 2) 0) (get_or sides (k * 2 + 1) 0) in filter_texel f m s t (bytes_at store (filter_addresses f m ws wt s t))

@@ -1,15 +1,15 @@
 // Samples of a texture: nearest, linear, and mixed between two levels.
 #![tactic(auto)]
 
-ghost use Rattle.std.specs.Prelude.{◌≡◌, true, ◌+◌, ◌*◌, ◌≤◌, ◌<◌, length, get_or};
-ghost use Rattle.levels.specs.Levels.{level_at, Fits, valid_of};
+ghost use Rattle.std.specs.Prelude.{◌≡◌, true, ◌+◌, ◌*◌, ◌≤◌, ◌<◌, length};
+ghost use Rattle.levels.specs.Levels.{Fits, valid_of};
 ghost use Rattle.mipmaps.specs.Mipmaps.{Within};
-ghost use Rattle.detail.specs.Steps.{Thresholds};
 ghost use Rattle.sampler.specs.Texels.{texel_at, white, linear_byte, linear_texel, part_of, mix_byte, mix_texel};
 ghost use Rattle.sampler.specs.Addresses.{index_of, filter_addresses, chosen_addresses, bytes_at};
-ghost use Rattle.sampler.specs.Samples.{filter_texel, chosen_texel, first_level, last_level, level_filter, places_of, sides_of, sample_of, sampled_of, outcome_of, sample_call, Image, Readable, nearest_in, linear_in};
+ghost use Rattle.sampler.specs.Samples.{filter_texel, chosen_texel, first_level, last_level, level_filter, sample_of, outcome_of, sample_call, Image, Readable, nearest_in, linear_in};
 
 use answers::Refusal;
+use detail::LevelTable;
 use levels::{Filter, MipLevel, Texture, Wrap};
 use mipmaps::{Chosen, Coordinates};
 
@@ -20,18 +20,6 @@ pub struct Texel {
     pub g: u8,
     pub b: u8,
     pub a: u8,
-}
-
-// What a sample gives.
-#[derive(Clone, Copy)]
-pub struct Sampled {
-    pub texel: Texel,
-}
-
-#[derive(Clone, Copy)]
-pub enum SampleAnswer {
-    Sampled(Sampled),
-    Refused(Refusal),
 }
 
 fn texel_at(texels: &[u8], i: usize) -> Texel
@@ -152,80 +140,11 @@ fn mix_texels(part: u32, a: Texel, b: Texel) -> Texel
     }
 }
 
-// The place of each level in the store, for a draw to make once and lend.
-pub fn places(texture: Texture) -> [usize; 11]
-    ensures { result ≡ places_of texture.levels }
-{
-    let l = texture.levels;
-    [
-        l[0].place,
-        l[1].place,
-        l[2].place,
-        l[3].place,
-        l[4].place,
-        l[5].place,
-        l[6].place,
-        l[7].place,
-        l[8].place,
-        l[9].place,
-        l[10].place,
-    ]
-}
-
-// The width and the height of each level, for a draw to make once and lend.
-pub fn sides(texture: Texture) -> [u32; 22]
-    ensures { result ≡ sides_of texture.levels }
-{
-    let l = texture.levels;
-    [
-        l[0].width,
-        l[0].height,
-        l[1].width,
-        l[1].height,
-        l[2].width,
-        l[2].height,
-        l[3].width,
-        l[3].height,
-        l[4].width,
-        l[4].height,
-        l[5].width,
-        l[5].height,
-        l[6].width,
-        l[6].height,
-        l[7].width,
-        l[7].height,
-        l[8].width,
-        l[8].height,
-        l[9].width,
-        l[9].height,
-        l[10].width,
-        l[10].height,
-    ]
-}
-
-// Level k by its place and its sides.
-fn level_at(places: &[usize; 11], sides: &[u32; 22], k: usize) -> MipLevel
-    requires { k < 11 }
-    ensures { result ≡ level_at (get_or places.now k 0) (get_or sides.now (k * 2) 0) (get_or sides.now (k * 2 + 1) 0) }
-{
-    MipLevel {
-        present: true,
-        place: places[k],
-        width: sides[k * 2],
-        height: sides[k * 2 + 1],
-    }
-}
-
 fn first_level(chosen: Chosen) -> usize
     ensures { result ≡ first_level chosen }
 {
     match chosen {
-        Chosen::One { level, filter: _ } => level,
-        Chosen::Two {
-            level,
-            filter: _,
-            part: _,
-        } => level,
+        Chosen::One { level, .. } | Chosen::Two { level, .. } => level,
     }
 }
 
@@ -234,12 +153,8 @@ fn last_level(chosen: Chosen) -> usize
     ensures { result ≡ last_level chosen }
 {
     match chosen {
-        Chosen::One { level, filter: _ } => level,
-        Chosen::Two {
-            level,
-            filter: _,
-            part: _,
-        } => level + 1,
+        Chosen::One { level, .. } => level,
+        Chosen::Two { level, .. } => level + 1,
     }
 }
 
@@ -247,62 +162,32 @@ fn level_filter(chosen: Chosen) -> Filter
     ensures { result ≡ level_filter chosen }
 {
     match chosen {
-        Chosen::One { level: _, filter } => filter,
-        Chosen::Two {
-            level: _,
-            filter,
-            part: _,
-        } => filter,
+        Chosen::One { filter, .. } | Chosen::Two { filter, .. } => filter,
     }
 }
 
 // One loop over the levels, so that the filters stand there once and need no call.
-fn sample_chosen(
-    store: &[u8],
-    places: &[usize; 11],
-    sides: &[u32; 22],
-    texture: Texture,
-    chosen: Chosen,
-    s: f32,
-    t: f32,
-) -> Texel
-    requires readable { Readable (length store.now) texture }
-    requires chosen_within { Within texture.max_mipmap_level chosen }
-    requires places_known { places.now ≡ places_of texture.levels }
-    requires sides_known { sides.now ≡ sides_of texture.levels }
-    ensures { result ≡ chosen_texel texture chosen s t (bytes_at store.now (chosen_addresses texture chosen s t)) }
+fn sample_chosen(store: &[u8], texture: &Texture, chosen: Chosen, s: f32, t: f32) -> Texel
+    requires readable { Readable (length store.now) texture.now }
+    requires chosen_within { Within texture.now.max_mipmap_level chosen }
+    ensures { result ≡ chosen_texel texture.now chosen s t (bytes_at store.now (chosen_addresses texture.now chosen s t)) }
 {
-    let level = first_level(chosen);
-    let last = last_level(chosen);
     let filter = level_filter(chosen);
     let wrap_s = texture.wrap_s;
     let wrap_t = texture.wrap_t;
+    let first = first_level(chosen);
+    let last = last_level(chosen);
     let mut lower = white_texel();
     let mut upper = white_texel();
-    let mut k = level;
-    while k <= last {
+    for k in first..last + 1 {
         lower = upper;
-        let m = level_at(places, sides, k);
-        upper = sample_filter(store, m, wrap_s, wrap_t, filter, s, t);
-        k += 1;
+        upper = sample_filter(store, texture.levels[k], wrap_s, wrap_t, filter, s, t);
     }
     match chosen {
-        Chosen::One {
-            level: _,
-            filter: _,
-        } => upper,
-        Chosen::Two {
-            level: _,
-            filter: _,
-            part,
-        } => mix_texels(part, lower, upper),
+        Chosen::One { .. } => upper,
+        Chosen::Two { part, .. } => mix_texels(part, lower, upper),
     }
 }
-
-// An array has as many elements as its type says.
-fn eleven(levels: [MipLevel; 11])
-    ensures { length levels ≡ 11 }
-{}
 
 fn white_texel() -> Texel
     ensures { result ≡ white }
@@ -315,24 +200,17 @@ fn white_texel() -> Texel
     }
 }
 
-// A sample of a record that is known to be valid, with the table, the places and the sides lent: what a draw does at each pixel.
-pub fn sample_lent(
+// A sample of a record that is known to be valid, with the table lent: what a draw does at each pixel.
+pub fn sample_with_gradients(
     store: &[u8],
-    table: &[f64; 128],
-    places: &[usize; 11],
-    sides: &[u32; 22],
-    texture: Texture,
+    table: &LevelTable,
+    texture: &Texture,
     p: Coordinates,
 ) -> Texel
-    requires thresholds { Thresholds table.now }
-    requires valid { valid_of (length store.now) texture ≡ true }
-    requires places_known { places.now ≡ places_of texture.levels }
-    requires sides_known { sides.now ≡ sides_of texture.levels }
-    ensures { result ≡ sample_of store.now texture p }
+    requires { valid_of (length store.now) texture.now ≡ true }
+    ensures { result ≡ sample_of store.now texture.now p }
 {
-    let levels = texture.levels;
-    eleven(levels);
-    let first = levels[0];
+    let first = texture.levels[0];
     if first.width == 0 {
         return white_texel();
     }
@@ -350,34 +228,16 @@ pub fn sample_lent(
         mag,
         p,
     );
-    sample_chosen(store, places, sides, texture, chosen, p.s, p.t)
-}
-
-// The same with the table alone lent.
-pub fn sample_with_gradients(
-    store: &[u8],
-    table: &[f64; 128],
-    texture: Texture,
-    p: Coordinates,
-) -> Sampled
-    requires thresholds { Thresholds table.now }
-    requires valid { valid_of (length store.now) texture ≡ true }
-    ensures { result ≡ sampled_of store.now texture p }
-{
-    let places = places(texture);
-    let sides = sides(texture);
-    Sampled {
-        texel: sample_lent(store, table, &places, &sides, texture, p),
-    }
+    sample_chosen(store, texture, chosen, p.s, p.t)
 }
 
 // The operation: refusal 8, else the texel.
-pub fn sample(store: &[u8], texture: Texture, p: Coordinates) -> SampleAnswer
+pub fn sample(store: &[u8], texture: Texture, p: Coordinates) -> Result<Texel, Refusal>
     ensures { outcome_of result ≡ sample_call store.now texture p }
 {
     if !levels::is_valid(texture, store.len()) {
-        return SampleAnswer::Refused(Refusal::Record);
+        return Err(Refusal::Record);
     }
-    let table = detail::thresholds();
-    SampleAnswer::Sampled(sample_with_gradients(store, &table, texture, p))
+    let table = LevelTable::new();
+    Ok(sample_with_gradients(store, &table, &texture, p))
 }

@@ -1,4 +1,5 @@
 -- The box cut to the target holds exactly the pixels of the target that lie in the scissor box. Assumes nothing.
+use Rattle.std.specs.Prelude.{Option, Some, None}
 use Prim.Native.Nat.{ℕ, ◌+◌, ◌-◌, ◌*◌, ◌≤◌, ◌<◌, min}
 use mathlib.Core.Path.{◌≡◌, refl, sym, ◌∙◌}
 use mathlib.Core.Bool.{Bool, true, false, cond, ◌&&◌}
@@ -9,11 +10,9 @@ use lib.IntN.{ℤ, pos, negsuc, ◌+ℤ◌}
 use lib.Signed.{le_z, lt_z}
 use borrow.Author.Tests.{leb-true, ltb-true, le-leb, lt-ltb, le-ltb}
 use Rattle.lists.proofs.Choice.{true_false}
-use Rattle.settings.specs.declared.Scissor.{Scissor}
-use Rattle.settings.specs.declared.Scissor.TheVariants.{Whole, Within}
-use Rattle.scissor.specs.declared.Bounds.{Bounds}
-use Rattle.scissor.specs.declared.Bounds.TheVariants.{Empty, Box}
 use Rattle.scissor.specs.Scissor.{within, in_box, from_zero, box_of, cut_of, bounds_of, in_bounds}
+use Rattle.scissor.specs.declared.PixelBox.{PixelBox}
+use Rattle.settings.specs.declared.ScissorBox.{ScissorBox}
 
 -- two tests are one where each passes with the other
 pub same_truth : (a b : Bool) → (a ≡ true → b ≡ true) → (b ≡ true → a ≡ true) → a ≡ b
@@ -59,7 +58,7 @@ module _ (x0 y0 x1 y1 c r : ℕ) where
       let y = in_span y0 y1 r p.1 in
       sym e ∙ both (lt-ltb x0 x1 (omega arith)) (lt-ltb y0 y1 (omega arith))
 
-  pick : (t : Bool) → (ltb x0 x1 && ltb y0 y1) ≡ t → in_bounds (cond t (Box x0 y0 x1 y1) Empty) c r ≡ (span x0 x1 c && span y0 y1 r)
+  pick : (t : Bool) → (ltb x0 x1 && ltb y0 y1) ≡ t → in_bounds (cond t (Some (record { x0 = x0; y0 = y0; x1 = x1; y1 = y1 })) None) c r ≡ (span x0 x1 c && span y0 y1 r)
   pick true e = refl
   pick false e = same_truth false (span x0 x1 c && span y0 y1 r) (λ h. absurd (true_false (sym h))) (none false e)
 
@@ -97,10 +96,10 @@ module _ (w h a e b d c r : ℕ) where
   same_box = same_truth cut_side box_side cut_box box_cut
 
 -- the law: a pixel is within the numbers of scissor_bounds exactly if it is a pixel of the target in the box
-pub bounds_are : (w h : ℕ) (s : Scissor) (c r : ℕ) → in_bounds (bounds_of w h s) c r ≡ in_box w h s c r
+pub bounds_are : (w h : ℕ) (s : Option ScissorBox) (c r : ℕ) → in_bounds (bounds_of w h s) c r ≡ in_box w h s c r
 unfolding bounds_of cut_of in_box
-bounds_are w h Whole c r = rw (leb-zero c, leb-zero r)
-bounds_are w h (Within b) c r =
+bounds_are w h None c r = rw (leb-zero c, leb-zero r)
+bounds_are w h (Some b) c r =
     let x = sym (within_is b.x b.width c) in
     let y = sym (within_is b.y b.height (h - 1 - r)) in
     in_box_of _ _ _ _ c r
@@ -109,19 +108,19 @@ bounds_are w h (Within b) c r =
 
 -- the scissor test in words: the column and the row, counted from the bottom, are within the numbers
 pub is_in_box : (w h : ℕ) (x y across up : ℤ) (c r fromBottom : ℕ) → c < w → r + fromBottom + 1 ≡ h
-    → in_box w h (Within (record { x = x; y = y; width = across; height = up })) c r ≡ (within x across c && within y up fromBottom)
+    → in_box w h (Some (record { x = x; y = y; width = across; height = up })) c r ≡ (within x across c && within y up fromBottom)
 unfolding in_box
 is_in_box w h x y across up c r k i e =
     let row : h - 1 - r ≡ k = omega arith in
     rw (lt-ltb c w i, lt-ltb r h (omega arith), row)
 
 -- bounds lie within the target, and their ends do not fall short of their starts
-abbrev pub Inside : ℕ → ℕ → Bounds → Type 0
-Inside w h Empty = Unit
-Inside w h (Box x0 y0 x1 y1) = (x0 ≤ x1) × (x1 ≤ w) × (y0 ≤ y1) × (y1 ≤ h)
+abbrev pub Inside : ℕ → ℕ → Option PixelBox → Type 0
+Inside w h None = Unit
+Inside w h (Some box) = (box.x0 ≤ box.x1) × (box.x1 ≤ w) × (box.y0 ≤ box.y1) × (box.y1 ≤ h)
 
 module _ (w h x0 y0 x1 y1 : ℕ) (i : x1 ≤ w) (j : y1 ≤ h) where
-  inside_at : (t : Bool) → (ltb x0 x1 && ltb y0 y1) ≡ t → Inside w h (cond t (Box x0 y0 x1 y1) Empty)
+  inside_at : (t : Bool) → (ltb x0 x1 && ltb y0 y1) ≡ t → Inside w h (cond t (Some (record { x0 = x0; y0 = y0; x1 = x1; y1 = y1 })) None)
   inside_at false e = tt
   inside_at true e =
       let p = split (ltb x0 x1) (ltb y0 y1) e in
@@ -129,13 +128,13 @@ module _ (w h x0 y0 x1 y1 : ℕ) (i : x1 ≤ w) (j : y1 ≤ h) where
       let y : y0 < y1 = ltb-true y0 y1 p.1 in
       (omega arith, i, omega arith, j)
 
-pub bounds_inside : (w h : ℕ) (s : Scissor) → Inside w h (bounds_of w h s)
+pub bounds_inside : (w h : ℕ) (s : Option ScissorBox) → Inside w h (bounds_of w h s)
 unfolding bounds_of cut_of
-bounds_inside w h Whole = (omega arith, omega arith, omega arith, omega arith)
-bounds_inside w h (Within b) =
+bounds_inside w h None = (omega arith, omega arith, omega arith, omega arith)
+bounds_inside w h (Some b) =
     inside_at w h (from_zero b.x) (h - from_zero (b.y +ℤ b.height)) (min (from_zero (b.x +ℤ b.width)) w) (h - from_zero b.y) (omega arith) (omega arith) _ refl
 
-pub box_inside : (w h : ℕ) (s : Scissor) {b : Bounds} → b ≡ bounds_of w h s → Inside w h b
+pub box_inside : (w h : ℕ) (s : Option ScissorBox) {b : Option PixelBox} → b ≡ bounds_of w h s → Inside w h b
 box_inside w h s e = rw e (bounds_inside w h s)
 
 -- the rows up to y1 lie within w * h elements, and k times that

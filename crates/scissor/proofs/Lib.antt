@@ -1,3 +1,2 @@
-pub mod Signs
 pub mod Boxes
 pub mod Outcome

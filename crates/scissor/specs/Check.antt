@@ -1,8 +1,7 @@
 -- The checks of document 01 on a target and a scissor.
-use Rattle.std.specs.Prelude.{ℕ, ◌*◌, Bool, true, ◌&&◌, leb, eqb, ℤ, pos, negsuc}
+use Rattle.std.specs.Prelude.{ℕ, ◌*◌, Bool, true, ◌&&◌, leb, eqb, ℤ, pos, negsuc, Option, Some, None}
 use Rattle.std.specs.Int.Signed.{le_z}
-use Rattle.settings.specs.declared.Scissor.{Scissor}
-use Rattle.settings.specs.declared.Scissor.TheVariants.{Whole, Within}
+use Rattle.settings.specs.declared.ScissorBox.{ScissorBox}
 
 -- Document 01, 1: no side above 4,096, colour bytes 4 × width × height, depths width × height
 unfoldable pub target_fits : ℕ → ℕ → ℕ → ℕ → Bool
@@ -17,6 +16,6 @@ unfoldable pub numbers_fit : ℤ → ℤ → ℤ → ℤ → Bool
 numbers_fit x y width height = (number_fits x && number_fits y) && (number_fits width && number_fits height)
 
 -- Document 01, 2: all four numbers of a box; an absent scissor passes
-unfoldable pub scissor_fits : Scissor → Bool
-scissor_fits Whole = true
-scissor_fits (Within b) = numbers_fit b.x b.y b.width b.height
+unfoldable pub scissor_fits : Option ScissorBox → Bool
+scissor_fits None = true
+scissor_fits (Some b) = numbers_fit b.x b.y b.width b.height

@@ -1,142 +1,98 @@
 // The scissor box cut to a render target (raster.rs, RenderTarget::scissor_bounds), and the checks on targets and boxes.
 #![tactic(auto)]
 
-ghost use Rattle.std.specs.Prelude.{◌≡◌, ◌-◌, min, ℤ, ◌+ℤ◌};
+ghost use Rattle.std.specs.Prelude.{◌≡◌, ◌^◌, pos, ◌<ℤ◌};
 ghost use Rattle.scissor.specs.Scissor.{from_zero, box_of, cut_of, bounds_of};
-ghost use Rattle.scissor.specs.Check.{target_fits, number_fits, numbers_fit, scissor_fits};
+ghost use Rattle.scissor.specs.Check.{target_fits, number_fits, scissor_fits};
 
-use settings::{PipelineState, Scissor};
+use settings::{PipelineState, ScissorBox};
 
 // Columns x0 to x1 and rows y0 to y1 of a target, rows from the top, the ends left out.
-#[derive(Clone, Copy)]
-pub enum Bounds {
-    Empty,
-    Box { x0: u32, y0: u32, x1: u32, y1: u32 },
+#[derive(Clone, Copy, Debug, PartialEq, Eq, Hash)]
+pub struct PixelBox {
+    pub x0: u32,
+    pub y0: u32,
+    pub x1: u32,
+    pub y1: u32,
 }
 
-fn from_zero(v: i32) -> u32
+// The number, or 0 below zero.
+fn from_zero(v: i64) -> u32
+    requires { v <ℤ pos (2 ^ 32) }
     ensures { result ≡ from_zero v }
 {
-    if v < 0 {
-        return 0;
-    }
-    v as u32
+    u32::try_from(v).unwrap_or(0)
 }
 
-// The end of an axis, v + len, from 0 on.
-fn end_from_zero(v: i32, len: i32) -> u32
-    ensures { result ≡ from_zero (v +ℤ len) }
-{
-    let e = v as i64 + len as i64;
-    if e < 0 {
-        return 0;
-    }
-    e as u32
-}
-
-// a - b, or 0.
-fn less(a: u32, b: u32) -> u32
-    ensures { result ≡ a - b }
-{
-    if a < b {
-        return 0;
-    }
-    a - b
-}
-
-fn smaller(a: u32, b: u32) -> u32
-    ensures { result ≡ min a b }
-{
-    if b < a {
-        return b;
-    }
-    a
-}
-
-fn box_of(x0: u32, y0: u32, x1: u32, y1: u32) -> Bounds
+// The box of these columns and rows, where it has any.
+pub fn box_of(x0: u32, y0: u32, x1: u32, y1: u32) -> Option<PixelBox>
     ensures { result ≡ box_of x0 y0 x1 y1 }
 {
-    if x0 >= x1 {
-        return Bounds::Empty;
+    if x0 < x1 && y0 < y1 {
+        Some(PixelBox { x0, y0, x1, y1 })
+    } else {
+        None
     }
-    if y0 >= y1 {
-        return Bounds::Empty;
-    }
-    Bounds::Box { x0, y0, x1, y1 }
 }
 
 // The scissor's y counts from the bottom.
-fn cut(width: u32, height: u32, x: i32, y: i32, across: i32, up: i32) -> Bounds
-    ensures { result ≡ cut_of width height x y across up }
+#[tactic(auto, unfolding(crate::specs::Scissor::cut_of))]
+fn cut(width: u32, height: u32, b: ScissorBox) -> Option<PixelBox>
+    ensures { result ≡ cut_of width height b.x b.y b.width b.height }
 {
+    let (x, y) = (i64::from(b.x), i64::from(b.y));
+    let (right, top) = (x + i64::from(b.width), y + i64::from(b.height));
     box_of(
         from_zero(x),
-        less(height, end_from_zero(y, up)),
-        smaller(end_from_zero(x, across), width),
-        less(height, from_zero(y)),
+        height.saturating_sub(from_zero(top)),
+        from_zero(right).min(width),
+        height.saturating_sub(from_zero(y)),
     )
 }
 
-pub fn scissor_bounds(width: u32, height: u32, scissor: Scissor) -> Bounds
+#[tactic(auto, unfolding(crate::specs::Scissor::bounds_of))]
+pub fn scissor_bounds(width: u32, height: u32, scissor: Option<ScissorBox>) -> Option<PixelBox>
     ensures { result ≡ bounds_of width height scissor }
 {
-    let Scissor::Within(b) = scissor else {
-        return Bounds::Box {
+    match scissor {
+        Some(b) => cut(width, height, b),
+        None => Some(PixelBox {
             x0: 0,
             y0: 0,
             x1: width,
             y1: height,
-        };
-    };
-    cut(width, height, b.x, b.y, b.width, b.height)
+        }),
+    }
 }
 
 // A scissor's or viewport's number.
+#[tactic(auto, unfolding(crate::specs::Check::number_fits))]
 pub fn number_fits(v: i32) -> bool
     ensures { result ≡ number_fits v }
 {
-    if v < -PipelineState::MAX_WINDOW_NUMBER {
-        return false;
-    }
-    v <= PipelineState::MAX_WINDOW_NUMBER
+    -PipelineState::MAX_WINDOW_NUMBER <= v && v <= PipelineState::MAX_WINDOW_NUMBER
 }
 
-fn numbers_fit(x: i32, y: i32, width: i32, height: i32) -> bool
-    ensures { result ≡ numbers_fit x y width height }
-{
-    if !number_fits(x) {
-        return false;
-    }
-    if !number_fits(y) {
-        return false;
-    }
-    if !number_fits(width) {
-        return false;
-    }
-    number_fits(height)
-}
-
-pub fn scissor_fits(scissor: Scissor) -> bool
+#[tactic(auto, unfolding(crate::specs::Check::scissor_fits, crate::specs::Check::numbers_fit))]
+pub fn scissor_fits(scissor: Option<ScissorBox>) -> bool
     ensures { result ≡ scissor_fits scissor }
 {
-    let Scissor::Within(b) = scissor else {
-        return true;
-    };
-    numbers_fit(b.x, b.y, b.width, b.height)
+    match scissor {
+        Some(b) => number_fits(b.x)
+            && number_fits(b.y)
+            && number_fits(b.width)
+            && number_fits(b.height),
+        None => true,
+    }
 }
 
+#[tactic(auto, using(std::proofs::lemmas::Bool::Decides::nat_tests), unfolding(crate::specs::Check::target_fits))]
 pub fn target_fits(width: u32, height: u32, colors: usize, depths: usize) -> bool
     ensures { result ≡ target_fits width height colors depths }
 {
-    if width > PipelineState::MAX_TARGET_SIDE {
-        return false;
-    }
-    if height > PipelineState::MAX_TARGET_SIDE {
-        return false;
-    }
     let pixels = width as usize * height as usize;
-    if colors != 4 * pixels {
-        return false;
-    }
-    depths == pixels
+    width <= PipelineState::MAX_TARGET_SIDE
+        && height <= PipelineState::MAX_TARGET_SIDE
+        && colors == 4 * pixels
+        && depths == pixels
 }

@@ -1,9 +1,7 @@
 -- Area, facing and culling of a triangle on the screen: raster.rs, raster_clipped; OpenGL ES 1.1, Polygon Rasterization.
-use Rattle.std.specs.Prelude.{Bool, true, false, cond, not, Float}
+use Rattle.std.specs.Prelude.{Bool, true, false, cond, not, Float, Option, Some, None}
 use Rattle.std.specs.Float.Ieee as Ieee
 use Rattle.floats.specs.Num.{◌⊖◌, ◌⊗◌, zero32, finite_of}
-use Rattle.settings.specs.declared.Cull.{Cull}
-use Rattle.settings.specs.declared.Cull.TheVariants.{Off, Discard}
 use Rattle.settings.specs.declared.CullMode.{CullMode}
 use Rattle.settings.specs.declared.CullMode.TheVariants.{Front, Back, FrontAndBack}
 use Rattle.settings.specs.declared.FrontFace.{FrontFace}
@@ -28,6 +26,6 @@ discard_by FrontAndBack front = true
 discard_by Front front = front
 discard_by Back front = not front
 
-abbrev pub discard_of : Cull → Bool → Bool
-discard_of Off front = false
-discard_of (Discard mode) front = discard_by mode front
+abbrev pub discard_of : Option CullMode → Bool → Bool
+discard_of None front = false
+discard_of (Some mode) front = discard_by mode front

@@ -1,6 +1,6 @@
 -- A corner on the screen: raster.rs, raster_clipped; OpenGL ES 1.1, Coordinate Transformations and Controlling the Viewport.
 -- Each float operation stands once, in the order the Rust writes it.
-use Rattle.std.specs.Prelude.{ℕ, Bool, false, cond, pos, int_le, int_lt, Float}
+use Rattle.std.specs.Prelude.{ℕ, Bool, false, cond, pos, int_le, int_lt, Float, Option, Some, None}
 use Rattle.std.specs.Float.Ieee as Ieee
 use Rattle.std.specs.Float.{binary32}
 use Rattle.floats.specs.Num.{◌⊕◌, ◌⊖◌, ◌⊗◌, ◌⊘◌, zero32, half32, one32, of_nat32, abs_of, finite_of, clamp_of}
@@ -10,8 +10,6 @@ use Rattle.vertices.specs.declared.Vertex.{Vertex}
 use Rattle.vertices.specs.Vertex.{coord}
 use Rattle.screen.specs.declared.View.{View}
 use Rattle.screen.specs.declared.ScreenVertex.{ScreenVertex}
-use Rattle.screen.specs.declared.Corner.{Corner}
-use Rattle.screen.specs.declared.Corner.TheVariants.{Kept, Nothing}
 
 -- ---- the tests of a corner
 
@@ -69,5 +67,5 @@ unfoldable pub screen_of : View → DepthRange → Vertex → ScreenVertex
 screen_of v r p = record { x = x_of v (ndc_of 0 p); y = y_of v (ndc_of 1 p); z = z_of r (ndc_of 2 p); inv_w = inverse_w p }
 
 -- a corner that passes its tests, on the screen
-unfoldable pub corner_of : View → DepthRange → Vertex → Corner
-corner_of v r p = cond (divides p) (Kept (screen_of v r p)) Nothing
+unfoldable pub corner_of : View → DepthRange → Vertex → Option ScreenVertex
+corner_of v r p = cond (divides p) (Some (screen_of v r p)) None

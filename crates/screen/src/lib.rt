@@ -5,10 +5,10 @@ ghost use Rattle.std.specs.Prelude.{◌≡◌};
 ghost use Rattle.screen.specs.Screen.{w_fits, ndc_fits, viewport_draws, view_of, x_of, y_of, z_of, corner_of};
 ghost use Rattle.screen.specs.Facing.{area_of, area_fits, front_of, discard_of};
 
-use settings::{Cull, CullMode, DepthRange, FrontFace, Viewport};
+use settings::{CullMode, DepthRange, FrontFace, Viewport};
 use vertices::Vertex;
 
-#[derive(Clone, Copy)]
+#[derive(Clone, Copy, Debug, PartialEq)]
 pub struct View {
     pub x: f32,
     pub y: f32,
@@ -18,7 +18,7 @@ pub struct View {
 }
 
 // A corner after the perspective divide. Its colour, texture coordinates and fog depth are the vertex's.
-#[derive(Clone, Copy)]
+#[derive(Clone, Copy, Debug, PartialEq)]
 pub struct ScreenVertex {
     pub x: f32,
     pub y: f32,
@@ -26,45 +26,29 @@ pub struct ScreenVertex {
     pub inv_w: f32,
 }
 
-// A corner that can be divided, or none: its triangle then draws nothing.
-#[derive(Clone, Copy)]
-pub enum Corner {
-    Kept(ScreenVertex),
-    Nothing,
-}
-
 fn w_fits(w: f32) -> bool
     ensures { result ≡ w_fits w }
 {
-    if floats::abs(w) < 1.0e-9 {
-        return false;
-    }
-    floats::is_finite(w)
+    !(floats::abs(w) < 1.0e-9) && floats::is_finite(w)
 }
 
+#[tactic(auto, unfolding(crate::specs::Screen::ndc_fits))]
 fn ndc_fits(x: f32, y: f32, z: f32) -> bool
     ensures { result ≡ ndc_fits x y z }
 {
-    if !floats::is_finite(x) {
-        return false;
-    }
-    if !floats::is_finite(y) {
-        return false;
-    }
-    floats::is_finite(z)
+    floats::is_finite(x) && floats::is_finite(y) && floats::is_finite(z)
 }
 
 // A viewport of zero or less draws nothing.
+#[tactic(auto, unfolding(crate::specs::Screen::viewport_draws))]
 pub fn viewport_draws(viewport: Viewport) -> bool
     ensures { result ≡ viewport_draws viewport }
 {
-    if viewport.width <= 0 {
-        return false;
-    }
-    viewport.height > 0
+    viewport.width > 0 && viewport.height > 0
 }
 
 // The viewport and the target's height, as the floats that corners are placed by.
+#[tactic(auto, unfolding(crate::specs::Screen::view_of))]
 pub fn view_of(viewport: Viewport, height: u32) -> View
     ensures { result ≡ view_of viewport height }
 {
@@ -77,6 +61,7 @@ pub fn view_of(viewport: Viewport, height: u32) -> View
     }
 }
 
+#[tactic(auto, unfolding(crate::specs::Screen::x_of))]
 fn screen_x(view: View, ndc: f32) -> f32
     ensures { result ≡ x_of view ndc }
 {
@@ -90,6 +75,7 @@ fn screen_y(view: View, ndc: f32) -> f32
     view.rows - (view.y + (ndc * 0.5 + 0.5) * view.height)
 }
 
+#[tactic(auto, unfolding(crate::specs::Screen::z_of))]
 fn screen_z(range: DepthRange, ndc: f32) -> f32
     ensures { result ≡ z_of range ndc }
 {
@@ -100,23 +86,24 @@ fn screen_z(range: DepthRange, ndc: f32) -> f32
     )
 }
 
-// A corner of a triangle left by clipping.
-pub fn screen_vertex(view: View, range: DepthRange, vertex: Vertex) -> Corner
+// A corner of a triangle left by clipping; none where it cannot be divided: its triangle then draws nothing.
+#[tactic(auto, unfolding(crate::specs::Screen::corner_of, crate::specs::Screen::divides, crate::specs::Screen::screen_of))]
+pub fn screen_vertex(view: View, range: DepthRange, vertex: Vertex) -> Option<ScreenVertex>
     ensures { result ≡ corner_of view range vertex }
 {
     let p = vertex.pos;
     let w = p[3];
     if !w_fits(w) {
-        return Corner::Nothing;
+        return None;
     }
     let inv_w = 1.0 / w;
     let x = p[0] * inv_w;
     let y = p[1] * inv_w;
     let z = p[2] * inv_w;
     if !ndc_fits(x, y, z) {
-        return Corner::Nothing;
+        return None;
     }
-    Corner::Kept(ScreenVertex {
+    Some(ScreenVertex {
         x: screen_x(view, x),
         y: screen_y(view, y),
         z: screen_z(range, z),
@@ -125,6 +112,7 @@ pub fn screen_vertex(view: View, range: DepthRange, vertex: Vertex) -> Corner
 }
 
 // Twice the triangle's area. Rows count downwards, so a counter-clockwise triangle has a negative one.
+#[tactic(auto, unfolding(crate::specs::Facing::area_of))]
 pub fn signed_area(a: ScreenVertex, b: ScreenVertex, c: ScreenVertex) -> f32
     ensures { result ≡ area_of a b c }
 {
@@ -134,10 +122,7 @@ pub fn signed_area(a: ScreenVertex, b: ScreenVertex, c: ScreenVertex) -> f32
 pub fn area_fits(area: f32) -> bool
     ensures { result ≡ area_fits area }
 {
-    if area == 0.0 {
-        return false;
-    }
-    floats::is_finite(area)
+    area != 0.0 && floats::is_finite(area)
 }
 
 pub fn is_front(front_face: FrontFace, area: f32) -> bool
@@ -149,15 +134,14 @@ pub fn is_front(front_face: FrontFace, area: f32) -> bool
     }
 }
 
-pub fn is_discarded(cull: Cull, front: bool) -> bool
+// cull: which faces are discarded, if any.
+pub fn is_discarded(cull: Option<CullMode>, front: bool) -> bool
     ensures { result ≡ discard_of cull front }
 {
-    let Cull::Discard(mode) = cull else {
-        return false;
-    };
-    match mode {
-        CullMode::FrontAndBack => true,
-        CullMode::Front => front,
-        CullMode::Back => !front,
+    match cull {
+        None => false,
+        Some(CullMode::FrontAndBack) => true,
+        Some(CullMode::Front) => front,
+        Some(CullMode::Back) => !front,
     }
 }

@@ -1,3 +1,4 @@
 pub mod Settings
 pub mod Compare
 pub mod Factor
+pub mod Codes

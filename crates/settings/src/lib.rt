@@ -2,20 +2,22 @@
 #![tactic(auto)]
 
 ghost use Rattle.std.specs.Prelude.{◌≡◌};
-ghost use Rattle.settings.specs.Settings.{read_compare, read_factor, compare_number, factor_number, default_state};
+ghost use Rattle.settings.specs.Settings.{read_compare, read_factor, default_state};
+ghost use Rattle.settings.specs.Codes.{mode_of, face_of, fog_of, env_of, compare_code, factor_code, mode_code, face_code, fog_code, env_code};
 ghost use Rattle.settings.specs.Compare.{test_of};
 ghost use Rattle.settings.specs.Factor.{splat_of, one_minus, saturated_of, resolve_of};
 
 use answers::Refusal;
 use consts::{
-    GL_ALWAYS, GL_DST_ALPHA, GL_DST_COLOR, GL_EQUAL, GL_GEQUAL, GL_GREATER, GL_LEQUAL, GL_LESS,
-    GL_NEVER, GL_NOTEQUAL, GL_ONE, GL_ONE_MINUS_DST_ALPHA, GL_ONE_MINUS_DST_COLOR,
-    GL_ONE_MINUS_SRC_ALPHA, GL_ONE_MINUS_SRC_COLOR, GL_SRC_ALPHA, GL_SRC_ALPHA_SATURATE,
-    GL_SRC_COLOR, GL_ZERO,
+    GL_ADD, GL_ALWAYS, GL_BACK, GL_BLEND, GL_CCW, GL_CW, GL_DECAL, GL_DST_ALPHA, GL_DST_COLOR,
+    GL_EQUAL, GL_EXP, GL_EXP2, GL_FRONT, GL_FRONT_AND_BACK, GL_GEQUAL, GL_GREATER, GL_LEQUAL,
+    GL_LESS, GL_LINEAR_FOG, GL_MODULATE, GL_NEVER, GL_NOTEQUAL, GL_ONE, GL_ONE_MINUS_DST_ALPHA,
+    GL_ONE_MINUS_DST_COLOR, GL_ONE_MINUS_SRC_ALPHA, GL_ONE_MINUS_SRC_COLOR, GL_REPLACE,
+    GL_SRC_ALPHA, GL_SRC_ALPHA_SATURATE, GL_SRC_COLOR, GL_ZERO,
 };
 
 // Comparison of the depth and alpha tests.
-#[derive(Clone, Copy)]
+#[derive(Clone, Copy, Debug, PartialEq, Eq, Hash)]
 pub enum CompareFunc {
     Never,
     Less,
@@ -27,42 +29,46 @@ pub enum CompareFunc {
     Always,
 }
 
-// What a comparison's code stands for.
-#[derive(Clone, Copy)]
-pub enum ReadCompare {
-    Is(CompareFunc),
-    Refused(Refusal),
+// Refused, a comparison's code is unknown.
+impl TryFrom<u32> for CompareFunc {
+    type Error = Refusal;
+
+    ghost try_from_gives = { λ code r. r ≡ read_compare code };
+
+    #[tactic(auto, using(std::proofs::lemmas::Bool::Decides::nat_tests), unfolding(crate::specs::Settings::read_compare))]
+    fn try_from(code: u32) -> Result<Self, Refusal> {
+        match code {
+            GL_NEVER => Ok(CompareFunc::Never),
+            GL_LESS => Ok(CompareFunc::Less),
+            GL_EQUAL => Ok(CompareFunc::Equal),
+            GL_LEQUAL => Ok(CompareFunc::Lequal),
+            GL_GREATER => Ok(CompareFunc::Greater),
+            GL_NOTEQUAL => Ok(CompareFunc::Notequal),
+            GL_GEQUAL => Ok(CompareFunc::Gequal),
+            GL_ALWAYS => Ok(CompareFunc::Always),
+            _ => Err(Refusal::Code),
+        }
+    }
 }
 
-impl ReadCompare {
-    // 0, or the refusal's number.
-    pub fn number(self) -> u32
-        ensures { result ≡ compare_number self }
-    {
-        match self {
-            ReadCompare::Is(_) => 0,
-            ReadCompare::Refused(why) => why.number(),
+impl From<CompareFunc> for u32 {
+    ghost from_gives = { λ v r. r ≡ compare_code v };
+
+    fn from(v: CompareFunc) -> u32 {
+        match v {
+            CompareFunc::Never => GL_NEVER,
+            CompareFunc::Less => GL_LESS,
+            CompareFunc::Equal => GL_EQUAL,
+            CompareFunc::Lequal => GL_LEQUAL,
+            CompareFunc::Greater => GL_GREATER,
+            CompareFunc::Notequal => GL_NOTEQUAL,
+            CompareFunc::Gequal => GL_GEQUAL,
+            CompareFunc::Always => GL_ALWAYS,
         }
     }
 }
 
 impl CompareFunc {
-    pub fn from_enum(value: u32) -> ReadCompare
-        ensures { result ≡ read_compare value }
-    {
-        match value {
-            GL_NEVER => ReadCompare::Is(CompareFunc::Never),
-            GL_LESS => ReadCompare::Is(CompareFunc::Less),
-            GL_EQUAL => ReadCompare::Is(CompareFunc::Equal),
-            GL_LEQUAL => ReadCompare::Is(CompareFunc::Lequal),
-            GL_GREATER => ReadCompare::Is(CompareFunc::Greater),
-            GL_NOTEQUAL => ReadCompare::Is(CompareFunc::Notequal),
-            GL_GEQUAL => ReadCompare::Is(CompareFunc::Gequal),
-            GL_ALWAYS => ReadCompare::Is(CompareFunc::Always),
-            _ => ReadCompare::Refused(Refusal::Code),
-        }
-    }
-
     pub fn test(self, lhs: f32, rhs: f32) -> bool
         ensures { result ≡ test_of self lhs rhs }
     {
@@ -80,7 +86,7 @@ impl CompareFunc {
 }
 
 // Source or destination blend factor.
-#[derive(Clone, Copy)]
+#[derive(Clone, Copy, Debug, PartialEq, Eq, Hash)]
 pub enum BlendFactor {
     Zero,
     One,
@@ -95,45 +101,52 @@ pub enum BlendFactor {
     SrcAlphaSaturate,
 }
 
-// What a blend factor's code stands for.
-#[derive(Clone, Copy)]
-pub enum ReadFactor {
-    Is(BlendFactor),
-    Refused(Refusal),
+// Refused, a factor's code is unknown.
+impl TryFrom<u32> for BlendFactor {
+    type Error = Refusal;
+
+    ghost try_from_gives = { λ code r. r ≡ read_factor code };
+
+    #[tactic(auto, using(std::proofs::lemmas::Bool::Decides::nat_tests), unfolding(crate::specs::Settings::read_factor))]
+    fn try_from(code: u32) -> Result<Self, Refusal> {
+        match code {
+            GL_ZERO => Ok(BlendFactor::Zero),
+            GL_ONE => Ok(BlendFactor::One),
+            GL_SRC_COLOR => Ok(BlendFactor::SrcColor),
+            GL_ONE_MINUS_SRC_COLOR => Ok(BlendFactor::OneMinusSrcColor),
+            GL_SRC_ALPHA => Ok(BlendFactor::SrcAlpha),
+            GL_ONE_MINUS_SRC_ALPHA => Ok(BlendFactor::OneMinusSrcAlpha),
+            GL_DST_ALPHA => Ok(BlendFactor::DstAlpha),
+            GL_ONE_MINUS_DST_ALPHA => Ok(BlendFactor::OneMinusDstAlpha),
+            GL_DST_COLOR => Ok(BlendFactor::DstColor),
+            GL_ONE_MINUS_DST_COLOR => Ok(BlendFactor::OneMinusDstColor),
+            GL_SRC_ALPHA_SATURATE => Ok(BlendFactor::SrcAlphaSaturate),
+            _ => Err(Refusal::Code),
+        }
+    }
 }
 
-impl ReadFactor {
-    // 0, or the refusal's number.
-    pub fn number(self) -> u32
-        ensures { result ≡ factor_number self }
-    {
-        match self {
-            ReadFactor::Is(_) => 0,
-            ReadFactor::Refused(why) => why.number(),
+impl From<BlendFactor> for u32 {
+    ghost from_gives = { λ v r. r ≡ factor_code v };
+
+    fn from(v: BlendFactor) -> u32 {
+        match v {
+            BlendFactor::Zero => GL_ZERO,
+            BlendFactor::One => GL_ONE,
+            BlendFactor::SrcColor => GL_SRC_COLOR,
+            BlendFactor::OneMinusSrcColor => GL_ONE_MINUS_SRC_COLOR,
+            BlendFactor::SrcAlpha => GL_SRC_ALPHA,
+            BlendFactor::OneMinusSrcAlpha => GL_ONE_MINUS_SRC_ALPHA,
+            BlendFactor::DstAlpha => GL_DST_ALPHA,
+            BlendFactor::OneMinusDstAlpha => GL_ONE_MINUS_DST_ALPHA,
+            BlendFactor::DstColor => GL_DST_COLOR,
+            BlendFactor::OneMinusDstColor => GL_ONE_MINUS_DST_COLOR,
+            BlendFactor::SrcAlphaSaturate => GL_SRC_ALPHA_SATURATE,
         }
     }
 }
 
 impl BlendFactor {
-    pub fn from_enum(value: u32) -> ReadFactor
-        ensures { result ≡ read_factor value }
-    {
-        match value {
-            GL_ZERO => ReadFactor::Is(BlendFactor::Zero),
-            GL_ONE => ReadFactor::Is(BlendFactor::One),
-            GL_SRC_COLOR => ReadFactor::Is(BlendFactor::SrcColor),
-            GL_ONE_MINUS_SRC_COLOR => ReadFactor::Is(BlendFactor::OneMinusSrcColor),
-            GL_SRC_ALPHA => ReadFactor::Is(BlendFactor::SrcAlpha),
-            GL_ONE_MINUS_SRC_ALPHA => ReadFactor::Is(BlendFactor::OneMinusSrcAlpha),
-            GL_DST_ALPHA => ReadFactor::Is(BlendFactor::DstAlpha),
-            GL_ONE_MINUS_DST_ALPHA => ReadFactor::Is(BlendFactor::OneMinusDstAlpha),
-            GL_DST_COLOR => ReadFactor::Is(BlendFactor::DstColor),
-            GL_ONE_MINUS_DST_COLOR => ReadFactor::Is(BlendFactor::OneMinusDstColor),
-            GL_SRC_ALPHA_SATURATE => ReadFactor::Is(BlendFactor::SrcAlphaSaturate),
-            _ => ReadFactor::Refused(Refusal::Code),
-        }
-    }
-
     // The factor's four multipliers.
     pub fn resolve(self, src: Rgba, dst: Rgba) -> Rgba
         ensures { result ≡ resolve_of self src dst }
@@ -189,28 +202,78 @@ fn saturated(src: f32, dst: f32) -> Rgba
     }
 }
 
-#[derive(Clone, Copy)]
+// Which faces are discarded.
+#[derive(Clone, Copy, Debug, PartialEq, Eq, Hash)]
 pub enum CullMode {
     Front,
     Back,
     FrontAndBack,
 }
 
-// Which faces are discarded, if any.
-#[derive(Clone, Copy)]
-pub enum Cull {
-    Off,
-    Discard(CullMode),
+// Refused, a mode's code is unknown.
+impl TryFrom<u32> for CullMode {
+    type Error = Refusal;
+
+    ghost try_from_gives = { λ code r. r ≡ mode_of code };
+
+    #[tactic(auto, using(std::proofs::lemmas::Bool::Decides::nat_tests), unfolding(crate::specs::Codes::mode_of))]
+    fn try_from(code: u32) -> Result<Self, Refusal> {
+        match code {
+            GL_FRONT => Ok(CullMode::Front),
+            GL_BACK => Ok(CullMode::Back),
+            GL_FRONT_AND_BACK => Ok(CullMode::FrontAndBack),
+            _ => Err(Refusal::Code),
+        }
+    }
 }
 
-#[derive(Clone, Copy)]
+impl From<CullMode> for u32 {
+    ghost from_gives = { λ v r. r ≡ mode_code v };
+
+    fn from(v: CullMode) -> u32 {
+        match v {
+            CullMode::Front => GL_FRONT,
+            CullMode::Back => GL_BACK,
+            CullMode::FrontAndBack => GL_FRONT_AND_BACK,
+        }
+    }
+}
+
+#[derive(Clone, Copy, Debug, PartialEq, Eq, Hash)]
 pub enum FrontFace {
     Cw,
     Ccw,
 }
 
+// Refused, a face's code is unknown.
+impl TryFrom<u32> for FrontFace {
+    type Error = Refusal;
+
+    ghost try_from_gives = { λ code r. r ≡ face_of code };
+
+    #[tactic(auto, using(std::proofs::lemmas::Bool::Decides::nat_tests), unfolding(crate::specs::Codes::face_of))]
+    fn try_from(code: u32) -> Result<Self, Refusal> {
+        match code {
+            GL_CW => Ok(FrontFace::Cw),
+            GL_CCW => Ok(FrontFace::Ccw),
+            _ => Err(Refusal::Code),
+        }
+    }
+}
+
+impl From<FrontFace> for u32 {
+    ghost from_gives = { λ v r. r ≡ face_code v };
+
+    fn from(v: FrontFace) -> u32 {
+        match v {
+            FrontFace::Cw => GL_CW,
+            FrontFace::Ccw => GL_CCW,
+        }
+    }
+}
+
 // How a texture's colour combines with the fragment's.
-#[derive(Clone, Copy)]
+#[derive(Clone, Copy, Debug, PartialEq, Eq, Hash)]
 pub enum TexEnvMode {
     Modulate,
     Replace,
@@ -219,11 +282,73 @@ pub enum TexEnvMode {
     Add,
 }
 
-#[derive(Clone, Copy)]
+// Refused, an environment's code is unknown.
+impl TryFrom<u32> for TexEnvMode {
+    type Error = Refusal;
+
+    ghost try_from_gives = { λ code r. r ≡ env_of code };
+
+    #[tactic(auto, using(std::proofs::lemmas::Bool::Decides::nat_tests), unfolding(crate::specs::Codes::env_of))]
+    fn try_from(code: u32) -> Result<Self, Refusal> {
+        match code {
+            GL_MODULATE => Ok(TexEnvMode::Modulate),
+            GL_REPLACE => Ok(TexEnvMode::Replace),
+            GL_DECAL => Ok(TexEnvMode::Decal),
+            GL_BLEND => Ok(TexEnvMode::Blend),
+            GL_ADD => Ok(TexEnvMode::Add),
+            _ => Err(Refusal::Code),
+        }
+    }
+}
+
+impl From<TexEnvMode> for u32 {
+    ghost from_gives = { λ v r. r ≡ env_code v };
+
+    fn from(v: TexEnvMode) -> u32 {
+        match v {
+            TexEnvMode::Modulate => GL_MODULATE,
+            TexEnvMode::Replace => GL_REPLACE,
+            TexEnvMode::Decal => GL_DECAL,
+            TexEnvMode::Blend => GL_BLEND,
+            TexEnvMode::Add => GL_ADD,
+        }
+    }
+}
+
+#[derive(Clone, Copy, Debug, PartialEq, Eq, Hash)]
 pub enum FogMode {
     Linear,
     Exp,
     Exp2,
+}
+
+// Refused, a curve's code is unknown.
+impl TryFrom<u32> for FogMode {
+    type Error = Refusal;
+
+    ghost try_from_gives = { λ code r. r ≡ fog_of code };
+
+    #[tactic(auto, using(std::proofs::lemmas::Bool::Decides::nat_tests), unfolding(crate::specs::Codes::fog_of))]
+    fn try_from(code: u32) -> Result<Self, Refusal> {
+        match code {
+            GL_LINEAR_FOG => Ok(FogMode::Linear),
+            GL_EXP => Ok(FogMode::Exp),
+            GL_EXP2 => Ok(FogMode::Exp2),
+            _ => Err(Refusal::Code),
+        }
+    }
+}
+
+impl From<FogMode> for u32 {
+    ghost from_gives = { λ v r. r ≡ fog_code v };
+
+    fn from(v: FogMode) -> u32 {
+        match v {
+            FogMode::Linear => GL_LINEAR_FOG,
+            FogMode::Exp => GL_EXP,
+            FogMode::Exp2 => GL_EXP2,
+        }
+    }
 }
 
 // A colour of the pixel's way: straight, and in 0 to 1 where nothing else is said.
@@ -267,13 +392,6 @@ pub struct ScissorBox {
     pub height: i32,
 }
 
-// Where a clear or a draw may write: the whole target, or a box of it.
-#[derive(Clone, Copy)]
-pub enum Scissor {
-    Whole,
-    Within(ScissorBox),
-}
-
 // One enabled texture unit.
 #[derive(Clone, Copy)]
 pub struct TextureStage {
@@ -287,7 +405,8 @@ pub struct TextureStage {
 pub struct PipelineState {
     pub viewport: Viewport,
     pub depth_range: DepthRange,
-    pub scissor: Scissor,
+    // Where a draw may write: the whole target, or a box of it.
+    pub scissor: Option<ScissorBox>,
     pub depth_test: bool,
     pub depth_func: CompareFunc,
     pub depth_write: bool,
@@ -297,7 +416,7 @@ pub struct PipelineState {
     pub blend: bool,
     pub blend_src: BlendFactor,
     pub blend_dst: BlendFactor,
-    pub cull: Cull,
+    pub cull: Option<CullMode>,
     pub front_face: FrontFace,
     pub color_mask: ColorMask,
     pub fog: bool,
@@ -331,7 +450,7 @@ impl PipelineState {
                 near: 0.0,
                 far: 1.0,
             },
-            scissor: Scissor::Whole,
+            scissor: None,
             depth_test: false,
             depth_func: CompareFunc::Less,
             depth_write: true,
@@ -341,7 +460,7 @@ impl PipelineState {
             blend: false,
             blend_src: BlendFactor::One,
             blend_dst: BlendFactor::Zero,
-            cull: Cull::Off,
+            cull: None,
             front_face: FrontFace::Ccw,
             color_mask: ColorMask {
                 r: true,

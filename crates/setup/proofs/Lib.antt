@@ -1,2 +1,3 @@
 pub mod Setups
 pub mod Outcomes
+pub mod Edges

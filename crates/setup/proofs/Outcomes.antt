@@ -1,4 +1,5 @@
 -- What follows of a triangle left by clipping: the corners of document 01, and where its pixels lie. Assumes nothing.
+use Rattle.std.specs.Prelude.{Option, Some, None}
 use Prim.Native.Nat.{ℕ, ◌<◌, ◌≤◌}
 use mathlib.Core.Path.{◌≡◌, refl, sym}
 use mathlib.Core.Bool.{Bool, true, false, cond, ◌&&◌}
@@ -7,41 +8,36 @@ use lib.Dec.{ltb}
 use lib.Ieee.{Float}
 use borrow.Author.Tests.{ltb-true}
 use Rattle.lists.proofs.Choice.{was_true, was_false, true_false}
-use Rattle.settings.specs.declared.Cull.{Cull}
 use Rattle.settings.specs.declared.DepthRange.{DepthRange}
 use Rattle.settings.specs.declared.FrontFace.{FrontFace}
 use Rattle.vertices.specs.declared.Vertex.{Vertex}
-use Rattle.scissor.specs.declared.Bounds.TheVariants.{Empty, Box}
 use Rattle.screen.specs.declared.View.{View}
 use Rattle.screen.specs.declared.ScreenVertex.{ScreenVertex}
-use Rattle.screen.specs.declared.Corner.{Corner}
-use Rattle.screen.specs.declared.Corner.TheVariants as Corner
 use Rattle.screen.specs.Screen.{divides, screen_of, corner_of}
 use Rattle.screen.specs.Facing.{area_of, area_fits, front_of, discard_of}
-use Rattle.setup.specs.declared.PixelBox.{PixelBox}
+use Rattle.scissor.specs.declared.PixelBox.{PixelBox}
 use Rattle.setup.specs.declared.Raster.{Raster}
-use Rattle.setup.specs.declared.Setup.{Setup}
-use Rattle.setup.specs.declared.Setup.TheVariants.{Nothing, Draws}
 use Rattle.setup.specs.Box.{start_of, end_of, covered_of}
 use Rattle.setup.specs.Setup.{raster_of, on_screen, with_corner, setup_of}
+use Rattle.settings.specs.declared.CullMode.{CullMode}
 
 -- ---- the corners' tests
 
-with_none : (x : Corner) (f : ScreenVertex → Setup) → ((p : ScreenVertex) → f p ≡ Nothing) → with_corner x f ≡ Nothing
-with_none Corner.Nothing f h = refl
-with_none (Corner.Kept p) f h = h p
+with_none : (x : Option ScreenVertex) (f : ScreenVertex → Option Raster) → ((p : ScreenVertex) → f p ≡ None) → with_corner x f ≡ None
+with_none None f h = refl
+with_none (Some p) f h = h p
 
-module _ (view : View) (r : DepthRange) (f : FrontFace) (cull : Cull) (within : PixelBox) (a b c : Vertex) where
+module _ (view : View) (r : DepthRange) (f : FrontFace) (cull : Option CullMode) (within : PixelBox) (a b c : Vertex) where
   -- w below 1e-9 in magnitude or not finite, or a divided corner not finite: the triangle draws nothing
-  pub first_undivided : divides a ≡ false → setup_of view r f cull within a b c ≡ Nothing
+  pub first_undivided : divides a ≡ false → setup_of view r f cull within a b c ≡ None
   unfolding setup_of corner_of
   first_undivided h = rw h
 
-  pub second_undivided : divides b ≡ false → setup_of view r f cull within a b c ≡ Nothing
+  pub second_undivided : divides b ≡ false → setup_of view r f cull within a b c ≡ None
   unfolding setup_of corner_of
   second_undivided h = with_none (corner_of view r a) _ (λ p. rw h)
 
-  pub third_undivided : divides c ≡ false → setup_of view r f cull within a b c ≡ Nothing
+  pub third_undivided : divides c ≡ false → setup_of view r f cull within a b c ≡ None
   unfolding setup_of corner_of
   third_undivided h = with_none (corner_of view r a) _ (λ p. with_none (corner_of view r b) _ (λ q. rw h))
 
@@ -51,7 +47,7 @@ module _ (view : View) (r : DepthRange) (f : FrontFace) (cull : Cull) (within : 
 
 -- ---- the pixels
 
-never : {r : Raster} → Nothing ≡ Draws r → ⊥
+never : {r : Raster} → None ≡ Some r → ⊥
 never e = let z : ◌≡◌ {A = ℕ} 0 1 = cc in omega arith
 
 and_true : (s t : Bool) → (s && t) ≡ true → (s ≡ true) × (t ≡ true)
@@ -76,19 +72,19 @@ unfolding end_of
 end_to m hi = omega arith
 
 module _ (a b c : ScreenVertex) {r : Raster} where
-  pixels_are : {x0 y0 x1 y1 : ℕ} → raster_of a b c (Box x0 y0 x1 y1) ≡ Draws r → record { x0 = x0; y0 = y0; x1 = x1; y1 = y1 } ≡ r.pixels
+  pixels_are : {x0 y0 x1 y1 : ℕ} → raster_of a b c (Some (record { x0 = x0; y0 = y0; x1 = x1; y1 = y1 })) ≡ Some r → record { x0 = x0; y0 = y0; x1 = x1; y1 = y1 } ≡ r.pixels
   pixels_are e = cc
 
-  box_in : (x0 y0 x1 y1 : ℕ) (t : Bool) → (ltb x0 x1 && ltb y0 y1) ≡ t → raster_of a b c (cond t (Box x0 y0 x1 y1) Empty) ≡ Draws r → (x0 < x1) × (y0 < y1) × (record { x0 = x0; y0 = y0; x1 = x1; y1 = y1 } ≡ r.pixels)
+  box_in : (x0 y0 x1 y1 : ℕ) (t : Bool) → (ltb x0 x1 && ltb y0 y1) ≡ t → raster_of a b c (cond t (Some (record { x0 = x0; y0 = y0; x1 = x1; y1 = y1 })) None) ≡ Some r → (x0 < x1) × (y0 < y1) × (record { x0 = x0; y0 = y0; x1 = x1; y1 = y1 } ≡ r.pixels)
   box_in x0 y0 x1 y1 true h e =
       let k = and_true (ltb x0 x1) (ltb y0 y1) h in
       (ltb-true _ _ k.0, ltb-true _ _ k.1, pixels_are e)
   box_in x0 y0 x1 y1 false h e = absurd (never e)
 
-module _ (f : FrontFace) (cull : Cull) (within : PixelBox) (a b c : ScreenVertex) {r : Raster} where
+module _ (f : FrontFace) (cull : Option CullMode) (within : PixelBox) (a b c : ScreenVertex) {r : Raster} where
   -- what a triangle that draws has passed
-  pub drawn_by : on_screen f cull within a b c ≡ Draws r
-      → (area_fits (area_of a b c) ≡ true) × (discard_of cull (front_of f (area_of a b c)) ≡ false) × (raster_of a b c (covered_of a b c within) ≡ Draws r)
+  pub drawn_by : on_screen f cull within a b c ≡ Some r
+      → (area_fits (area_of a b c) ≡ true) × (discard_of cull (front_of f (area_of a b c)) ≡ false) × (raster_of a b c (covered_of a b c within) ≡ Some r)
   unfolding on_screen
   drawn_by e =
       let h = was_true (area_fits (area_of a b c)) e never in
@@ -96,7 +92,7 @@ module _ (f : FrontFace) (cull : Cull) (within : PixelBox) (a b c : ScreenVertex
       (h.0, k.0, k.1)
 
   -- its pixels lie in the box that they are cut to
-  pub drawn_within : on_screen f cull within a b c ≡ Draws r → Within r.pixels within
+  pub drawn_within : on_screen f cull within a b c ≡ Some r → Within r.pixels within
   unfolding covered_of
   drawn_within e =
       let h = box_in a b c _ _ _ _ _ refl (drawn_by e).2 in

@@ -1,13 +1,12 @@
 -- The pixels that a triangle can cover: raster.rs, raster_clipped, the bounding box cut to the scissor's.
-use Rattle.std.specs.Prelude.{ℕ, max, min, Float}
+use Rattle.std.specs.Prelude.{ℕ, max, min, Float, Option}
 use Rattle.std.specs.Float.Ieee as Ieee
 use Rattle.std.specs.Float.{binary32}
 use Rattle.floats.specs.Num.{min_of, max_of, inf32}
 use Rattle.rounding.specs.Rounding.{floor_of, ceil_of, next_of}
-use Rattle.scissor.specs.declared.Bounds.{Bounds}
 use Rattle.scissor.specs.Scissor.{from_zero, box_of}
 use Rattle.screen.specs.declared.ScreenVertex.{ScreenVertex}
-use Rattle.setup.specs.declared.PixelBox.{PixelBox}
+use Rattle.scissor.specs.declared.PixelBox.{PixelBox}
 
 -- raster.rs, raster_clipped: fold(f32::INFINITY, min), fold(f32::NEG_INFINITY, max)
 unfoldable pub least_of : Float → Float → Float → Float
@@ -24,7 +23,7 @@ start_of m lo = max (from_zero (Ieee.to_signed 31 (floor_of m))) lo
 unfoldable pub end_of : Float → ℕ → ℕ
 end_of m hi = min (from_zero (next_of 31 (Ieee.to_signed 31 (ceil_of m)))) hi
 
-unfoldable pub covered_of : ScreenVertex → ScreenVertex → ScreenVertex → PixelBox → Bounds
+unfoldable pub covered_of : ScreenVertex → ScreenVertex → ScreenVertex → PixelBox → Option PixelBox
 covered_of a b c within =
     box_of (start_of (least_of a.x b.x c.x) within.x0) (start_of (least_of a.y b.y c.y) within.y0)
     (end_of (greatest_of a.x b.x c.x) within.x1) (end_of (greatest_of a.y b.y c.y) within.y1)

@@ -1,5 +1,5 @@
 -- The texture stages of a fragment, in order: raster.rs, raster_clipped; OpenGL ES 1.1, Texture Environments and Texture Functions.
-use Rattle.std.specs.Prelude.{ℕ, ◌+◌, ◌*◌, ◌<◌, ◌≤◌, ◌≡◌, true, cond, List, [], length, get_or, Float}
+use Rattle.std.specs.Prelude.{ℕ, ◌+◌, ◌*◌, ◌<◌, ◌≤◌, ◌≡◌, true, cond, List, [], get_or, Float}
 use Rattle.std.specs.Float.{nan}
 use Rattle.lists.specs.Lists.{iter, flat}
 use Rattle.levels.specs.declared.Texture.{Texture}

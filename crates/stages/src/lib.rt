@@ -3,11 +3,11 @@
 
 ghost use Rattle.std.specs.Prelude.{◌≡◌, true, ◌+◌, ◌<◌, length};
 ghost use Rattle.levels.specs.Levels.{valid_of};
-ghost use Rattle.detail.specs.Steps.{Thresholds};
 ghost use Rattle.coverage.specs.Coverage.{corners_at};
 ghost use Rattle.stages.specs.Stages.{coordinates_of, stage_color, stages_color, StagesFit, texel_color};
 
 use coverage::Primitive;
+use detail::LevelTable;
 use gradients::PerCorner;
 use levels::Texture;
 use mipmaps::Coordinates;
@@ -26,6 +26,7 @@ fn texcoords(i: usize, a: [f32; 8], b: [f32; 8], c: [f32; 8]) -> PerCorner
 }
 
 // A unit's coordinates at a pixel, with their gradients.
+#[tactic(auto, unfolding(crate::specs::Stages::coordinates_of))]
 fn coordinates_at(t: Primitive, w: PerCorner, rec: f32, unit: u32) -> Coordinates
     requires { unit < 4 }
     ensures { result ≡ coordinates_of t w rec unit }
@@ -56,18 +57,16 @@ fn texel_color(x: Texel) -> Rgba
 // One stage. Where its texture's level 0 is incomplete the colour passes on.
 fn stage_color(
     store: &[u8],
-    table: &[f64; 128],
+    table: &LevelTable,
     stage: TextureStage,
-    texture: Texture,
+    texture: &Texture,
     p: Coordinates,
     frag: Rgba,
 ) -> Rgba
-    requires thresholds { Thresholds table.now }
-    requires valid { valid_of (length store.now) texture ≡ true }
-    ensures { result ≡ stage_color store.now stage texture p frag }
+    requires valid { valid_of (length store.now) texture.now ≡ true }
+    ensures { result ≡ stage_color store.now stage texture.now p frag }
 {
-    let levels = texture.levels;
-    let first = levels[0];
+    let first = texture.levels[0];
     if first.width == 0 {
         return frag;
     }
@@ -75,49 +74,60 @@ fn stage_color(
         return frag;
     }
     let sampled = sampler::sample_with_gradients(store, table, texture, p);
-    fragment::apply_tex_env(stage, frag, texel_color(sampled.texel))
+    fragment::apply_tex_env(stage, frag, texel_color(sampled))
 }
 
 // One stage at a pixel: what a draw with a single stage does there, without the arrays of four.
 pub fn stage_at(
     store: &[u8],
-    table: &[f64; 128],
+    table: &LevelTable,
     stage: TextureStage,
-    texture: Texture,
+    texture: &Texture,
     t: Primitive,
     w: PerCorner,
     rec: f32,
     frag: Rgba,
 ) -> Rgba
-    requires thresholds { Thresholds table.now }
-    requires valid { (valid_of (length store.now) texture ≡ true) × (stage.unit < 4) }
-    ensures { result ≡ stage_color store.now stage texture (coordinates_of t w rec stage.unit) frag }
+    requires valid { (valid_of (length store.now) texture.now ≡ true) × (stage.unit < 4) }
+    ensures { result ≡ stage_color store.now stage texture.now (coordinates_of t w rec stage.unit) frag }
 {
     let p = coordinates_at(t, w, rec, stage.unit);
     stage_color(store, table, stage, texture, p, frag)
 }
 
-// The colour after the stages in use. textures: the record that each stage reads.
-pub fn stages_color(
-    store: &[u8],
-    table: &[f64; 128],
-    stages: [TextureStage; 4],
-    count: usize,
-    textures: [Texture; 4],
-    t: Primitive,
-    w: PerCorner,
-    rec: f32,
-    frag: Rgba,
-) -> Rgba
-    requires thresholds { Thresholds table.now }
-    requires stages_fit { StagesFit (length store.now) count stages textures }
-    ensures { result ≡ stages_color store.now stages count textures t w rec frag }
-{
-    let mut color = frag;
-    for i in 0..count {
-        let stage = stages[i];
-        let p = coordinates_at(t, w, rec, stage.unit);
-        color = stage_color(store, table, stage, textures[i], p, color);
+// The stages in use, the record that each reads, and what a sample is lent.
+#[derive(Clone, Copy)]
+pub struct Stages<'a> {
+    pub store: &'a [u8],
+    pub table: &'a LevelTable,
+    pub stages: [TextureStage; 4],
+    pub count: usize,
+    pub textures: &'a [Texture; 4],
+    pub ghost fit: { StagesFit (length store.now) count stages textures.now },
+}
+
+impl Stages<'_> {
+    // A single stage, without the arrays of four.
+    pub fn first(&self, t: Primitive, w: PerCorner, rec: f32, frag: Rgba) -> Rgba
+        requires { self.now.count ≡ 1 }
+        ensures { result ≡ stages_color self.now.store.now self.now.stages self.now.count self.now.textures.now t w rec frag }
+    {
+        let textures = self.textures;
+        let stage = self.stages[0];
+        stage_at(self.store, self.table, stage, &textures[0], t, w, rec, frag)
     }
-    color
+
+    // The colour after the stages.
+    pub fn color(&self, t: Primitive, w: PerCorner, rec: f32, frag: Rgba) -> Rgba
+        ensures { result ≡ stages_color self.now.store.now self.now.stages self.now.count self.now.textures.now t w rec frag }
+    {
+        let textures = self.textures;
+        let mut color = frag;
+        for i in 0..self.count {
+            let stage = self.stages[i];
+            let p = coordinates_at(t, w, rec, stage.unit);
+            color = stage_color(self.store, self.table, stage, &textures[i], p, color);
+        }
+        color
+    }
 }

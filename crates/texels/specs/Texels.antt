@@ -1,10 +1,8 @@
 -- Texels of bytes and packed texels: which pairs of format and type are known, how wide a texel is, and what it decodes to.
-use Rattle.std.specs.Prelude.{cond, List, [], ◌∷◌, ℕ, ◌+◌, ◌*◌, ◌/◌, ◌%◌, eqb, get_or}
+use Rattle.std.specs.Prelude.{cond, List, [], ◌∷◌, ℕ, ◌+◌, ◌-◌, ◌*◌, ◌/◌, ◌%◌, ◌^◌, eqb, get_or, Option, Some, None}
 use Rattle.consts.specs.Codes.{GL_UNSIGNED_BYTE, GL_ALPHA, GL_RGB, GL_RGBA, GL_LUMINANCE, GL_LUMINANCE_ALPHA, GL_UNSIGNED_SHORT_4_4_4_4, GL_UNSIGNED_SHORT_5_5_5_1, GL_UNSIGNED_SHORT_5_6_5}
 use Rattle.texels.specs.declared.Texel.{Texel}
 use Rattle.texels.specs.declared.Texel.TheVariants.{Alpha, Luminance, LuminanceAlpha, Rgb, Rgba, Rgb565, Rgba4444, Rgba5551}
-use Rattle.texels.specs.declared.Format.{Format}
-use Rattle.texels.specs.declared.Format.TheVariants.{Known, Unknown}
 
 -- texture.rs, expand4, expand5 and expand6: a channel of 4, 5 or 6 bits as eight, its high bits again below
 abbrev pub expand4 : ℕ → ℕ
@@ -16,9 +14,17 @@ expand5 v = v % 32 * 8 + v % 32 / 4
 abbrev pub expand6 : ℕ → ℕ
 expand6 v = v % 64 * 4 + v % 64 / 16
 
+-- the same of n bits, from 4 to 8
+abbrev pub expand : ℕ → ℕ → ℕ
+expand n v = v % 2 ^ n * 2 ^ (8 - n) + v % 2 ^ n / 2 ^ (2 * n - 8)
+
 -- texture.rs, decode_to_rgba: a packed texel is two bytes, the low one first
 abbrev pub half : List ℕ → ℕ → ℕ
 half s at = get_or s at 0 + get_or s (at + 1) 0 * 256
+
+-- EXT_texture_compression_s3tc, and texture.rs, decode_to_rgba: a 5-6-5 colour
+abbrev pub rgb565 : ℕ → List ℕ
+rgb565 p = expand5 (p / 2048) ∷ expand6 (p / 32) ∷ expand5 p ∷ []
 
 -- texture.rs, decode_to_rgba, GL_UNSIGNED_SHORT_5_6_5
 abbrev pub rgba565 : ℕ → List ℕ
@@ -59,22 +65,22 @@ unfoldable pub nth_texel : Texel → List ℕ → ℕ → List ℕ
 nth_texel t s i = texel_at t s (i * texel_bytes t)
 
 -- texture.rs, bytes_per_texel: the five base formats of bytes
-unfoldable pub byte_format : ℕ → Format
+unfoldable pub byte_format : ℕ → Option Texel
 byte_format format =
-    cond (eqb format GL_ALPHA) (Known Alpha)
-    (cond (eqb format GL_LUMINANCE) (Known Luminance)
-    (cond (eqb format GL_LUMINANCE_ALPHA) (Known LuminanceAlpha)
-    (cond (eqb format GL_RGB) (Known Rgb) (cond (eqb format GL_RGBA) (Known Rgba) Unknown))))
+    cond (eqb format GL_ALPHA) (Some Alpha)
+    (cond (eqb format GL_LUMINANCE) (Some Luminance)
+    (cond (eqb format GL_LUMINANCE_ALPHA) (Some LuminanceAlpha)
+    (cond (eqb format GL_RGB) (Some Rgb) (cond (eqb format GL_RGBA) (Some Rgba) None))))
 
 -- texture.rs, bytes_per_texel: a packed type is known under any format
-unfoldable pub format_of : ℕ → ℕ → Format
+unfoldable pub format_of : ℕ → ℕ → Option Texel
 format_of format ty =
-    cond (eqb ty GL_UNSIGNED_SHORT_5_6_5) (Known Rgb565)
-    (cond (eqb ty GL_UNSIGNED_SHORT_4_4_4_4) (Known Rgba4444)
-    (cond (eqb ty GL_UNSIGNED_SHORT_5_5_5_1) (Known Rgba5551)
-    (cond (eqb ty GL_UNSIGNED_BYTE) (byte_format format) Unknown)))
+    cond (eqb ty GL_UNSIGNED_SHORT_5_6_5) (Some Rgb565)
+    (cond (eqb ty GL_UNSIGNED_SHORT_4_4_4_4) (Some Rgba4444)
+    (cond (eqb ty GL_UNSIGNED_SHORT_5_5_5_1) (Some Rgba5551)
+    (cond (eqb ty GL_UNSIGNED_BYTE) (byte_format format) None)))
 
 -- texture.rs, bytes_per_texel: 0 where it answers None
-abbrev pub format_bytes : Format → ℕ
-format_bytes (Known t) = texel_bytes t
-format_bytes Unknown = 0
+abbrev pub format_bytes : Option Texel → ℕ
+format_bytes (Some t) = texel_bytes t
+format_bytes None = 0

@@ -1,6 +1,6 @@
 -- What a define's check says where it passes, and the levels that stay. Assumes nothing.
 use mathlib.Core.Bool.{Bool, true, false, cond}
-use mathlib.Core.Path.{◌≡◌, refl, sym, ap, ◌∙◌}
+use mathlib.Core.Path.{◌≡◌, refl}
 use mathlib.Core.List.{List}
 use Prim.Native.Nat.{ℕ, ◌+◌, ◌≤◌, ◌<◌}
 use native.Mathlib.Omega.{arith}
@@ -11,11 +11,6 @@ use Rattle.lists.specs.Lists.{tab, any, all}
 use Rattle.lists.proofs.Choice.{was_true, was_false}
 use Rattle.lists.proofs.Tables.{length_tab, get_or_tab}
 use Rattle.lists.proofs.Members.{get_or_all}
-use Rattle.answers.specs.declared.Refusal.{Refusal}
-use Rattle.answers.specs.declared.Answer.{Answer}
-use Rattle.answers.specs.declared.Answer.TheVariants.{Refused}
-use Rattle.answers.specs.Numbers.{number_of}
-use Rattle.answers.proofs.Answered.{refused_test}
 use Rattle.levels.specs.declared.MipLevel.{MipLevel}
 use Rattle.levels.specs.declared.Texture.{Texture}
 use Rattle.levels.specs.Levels.{absent, level_at, levels_of, size_of, overlaps, fits, valid_of}
@@ -64,10 +59,6 @@ sound n t k w h place len e =
       within = ltb-false n (place + size_of m) i.0;
       free = j.0;
     }
-
--- where a check's answer is a refusal, its number is not 0
-pub refused_number : {why : Refusal} {a : Answer} {n : ℕ} → a ≡ Refused why → number_of a ≡ n → eqb n 0 ≡ false
-refused_number {why} {a} {n} e q = refused_test why n (ap number_of (sym e) ∙ q)
 
 module _ (n : ℕ) (t : Texture) (s : List ℕ) (t' : Texture) (s' : List ℕ) where
   pub settle_done : n ≡ 0 → settle n t s t' s' ≡ outcome 0 t' s'

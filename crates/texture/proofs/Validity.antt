@@ -9,23 +9,23 @@ use lib.Dec.{ltb, eqb}
 use lib.ListN.{length, get_or, length-set, get_or-eq_default}
 use lib.Seq.{get_or-set_same, get_or-set_other}
 use borrow.Author.Tests.{eqb-true, eqb-false, lt-ltb, le-ltb, le-leb, eq-eqb, ne_eqb}
+use Rattle.std.proofs.Common.{Result, Ok, Err}
 use Rattle.lists.specs.Lists.{any, all}
 use Rattle.lists.proofs.Tables.{length_tab, get_or_tab}
 use Rattle.lists.proofs.Members.{get_or_all}
+use Rattle.answers.specs.declared.Refusal.{Refusal}
 use Rattle.levels.specs.declared.MipLevel.{MipLevel}
+use Rattle.levels.specs.declared.MinFilter.{MinFilter}
+use Rattle.levels.specs.declared.Filter.{Filter}
+use Rattle.levels.specs.declared.Wrap.{Wrap}
 use Rattle.levels.specs.declared.Texture.{Texture}
 use Rattle.levels.specs.Levels.{absent, level_at, levels_of, level_of, size_of, top_of, overlaps, apart, fits, valid_of}
 use Rattle.levels.proofs.Apart.{apart_at, apart_make, overlaps_none, overlaps_gone, overlaps_sym}
 use Rattle.levels.proofs.Valid.{fits_at, valid_fits, valid_apart, valid_make, levels_same, fits_end}
 use Rattle.texture.specs.Define.{stays, stay_at, stay, enter_level, define_record, define_check, Outcome, define_of}
-use Rattle.texture.specs.declared.MinFilterCode.{MinFilterCode}
-use Rattle.texture.specs.declared.MinFilterCode.TheVariants as min-code
-use Rattle.texture.specs.declared.FilterCode.{FilterCode}
-use Rattle.texture.specs.declared.FilterCode.TheVariants as mag-code
-use Rattle.texture.specs.declared.WrapCode.{WrapCode}
-use Rattle.texture.specs.declared.WrapCode.TheVariants as wrap-code
 use Rattle.consts.specs.Codes.{GL_TEXTURE_MAG_FILTER, GL_TEXTURE_MIN_FILTER, GL_TEXTURE_WRAP_S, GL_TEXTURE_WRAP_T}
-use Rattle.texture.specs.Parameters.{min_filter_of, filter_of, wrap_of, with_min_filter, with_mag_filter, with_wrap_s, with_wrap_t, set_check, set_record, setting, set_of}
+use Rattle.levels.specs.Codes.{min_filter_of, filter_of, wrap_of}
+use Rattle.texture.specs.Parameters.{with_min_filter, with_mag_filter, with_wrap_s, with_wrap_t, set_check, set_record, setting, set_of}
 use Rattle.texture.proofs.Defining.{Sound, sound}
 use Rattle.texture.proofs.Written.{define_done, define_refused, define_length}
 
@@ -195,25 +195,25 @@ define_valid s t k w h place rgba v = rw (define_length s t k w h place rgba) (h
         ∙ define_record_valid (length s) t k w h place (length rgba) (sound (length s) t k w h place (length rgba) z)
     here false e = ap (λ (o : Outcome). valid_of (length s) o.texture) (define_refused s t k w h place rgba e) ∙ v
 
-min_valid : (n : ℕ) (c : MinFilterCode) (t : Texture) → valid_of n (with_min_filter c t) ≡ valid_of n t
+min_valid : (n : ℕ) (c : Result MinFilter Refusal) (t : Texture) → valid_of n (with_min_filter c t) ≡ valid_of n t
 unfolding valid_of
-min_valid n (min-code.Known f) t = refl
-min_valid n min-code.Unknown t = refl
+min_valid n (Ok f) t = refl
+min_valid n (Err why) t = refl
 
-mag_valid : (n : ℕ) (c : FilterCode) (t : Texture) → valid_of n (with_mag_filter c t) ≡ valid_of n t
+mag_valid : (n : ℕ) (c : Result Filter Refusal) (t : Texture) → valid_of n (with_mag_filter c t) ≡ valid_of n t
 unfolding valid_of
-mag_valid n (mag-code.Known f) t = refl
-mag_valid n mag-code.Unknown t = refl
+mag_valid n (Ok f) t = refl
+mag_valid n (Err why) t = refl
 
-wrap_s_valid : (n : ℕ) (c : WrapCode) (t : Texture) → valid_of n (with_wrap_s c t) ≡ valid_of n t
+wrap_s_valid : (n : ℕ) (c : Result Wrap Refusal) (t : Texture) → valid_of n (with_wrap_s c t) ≡ valid_of n t
 unfolding valid_of
-wrap_s_valid n (wrap-code.Known w) t = refl
-wrap_s_valid n wrap-code.Unknown t = refl
+wrap_s_valid n (Ok w) t = refl
+wrap_s_valid n (Err why) t = refl
 
-wrap_t_valid : (n : ℕ) (c : WrapCode) (t : Texture) → valid_of n (with_wrap_t c t) ≡ valid_of n t
+wrap_t_valid : (n : ℕ) (c : Result Wrap Refusal) (t : Texture) → valid_of n (with_wrap_t c t) ≡ valid_of n t
 unfolding valid_of
-wrap_t_valid n (wrap-code.Known w) t = refl
-wrap_t_valid n wrap-code.Unknown t = refl
+wrap_t_valid n (Ok w) t = refl
+wrap_t_valid n (Err why) t = refl
 
 either : (n : ℕ) (t a c : Texture) → valid_of n a ≡ valid_of n t → valid_of n c ≡ valid_of n t → (b : Bool) → valid_of n (cond b a c) ≡ valid_of n t
 either n t a c p q true = p

@@ -1,7 +1,8 @@
 -- define_level: its check, what becomes of the record and of the store, and the call.
-use Rattle.std.specs.Prelude.{Bool, true, false, cond, List, ℕ, ◌+◌, ltb, leb, eqb, length, get_or, set}
+use Rattle.std.specs.Prelude.{Bool, true, false, cond, List, ℕ, ◌+◌, ltb, leb, eqb, length, get_or, set, Result, Ok, Err}
 use Rattle.std.proofs.Math.Seq.{paste}
 use Rattle.lists.specs.Lists.{tab, any}
+use Rattle.answers.specs.declared.Refusal.{Refusal}
 use Rattle.levels.specs.declared.MipLevel.{MipLevel}
 use Rattle.levels.specs.declared.Texture.{Texture}
 use Rattle.levels.specs.Levels.{absent, level_at, levels_of, size_of, top_of, overlaps, valid_of}
@@ -48,6 +49,11 @@ define_record t k m =
 -- 01, Demand 3 in full: the image's bytes at the level's place
 unfoldable pub define_store : List ℕ → ℕ → List ℕ → List ℕ
 define_store s place rgba = paste s place rgba (length rgba)
+
+-- the record as a call leaves it: the caller's own where it is refused
+abbrev pub record_after : Texture → Result Texture Refusal → Texture
+record_after t (Ok t') = t'
+record_after t (Err why) = t
 
 -- what a call answers, by 01's number, and what it leaves
 pub record Outcome : Type 0 where

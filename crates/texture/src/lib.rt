@@ -1,121 +1,95 @@
 // Texture objects: define_level, patch_level and set_parameter of texture.rs, over a record by value and a lent texel store.
+// A call that is done gives the record as it leaves it; where one is refused, the caller's own stands.
 #![tactic(auto)]
 
 ghost use Rattle.std.specs.Prelude.{◌≡◌, true, cond, ◌+◌, ◌*◌, ◌≤◌, ◌<◌, length};
 ghost use Rattle.std.proofs.Math.Seq.{paste};
 ghost use Rattle.lists.specs.Lists.{all};
-ghost use Rattle.answers.specs.Numbers.{number_of};
+ghost use Rattle.answers.specs.Results.{answer_number};
 ghost use Rattle.levels.specs.Levels.{absent, fits, size_of, Fits};
-ghost use Rattle.texture.specs.Define.{stays, stay, place_check, record_check, define_check, enter_level, define_record, outcome, define_of};
+ghost use Rattle.texture.specs.Define.{stays, stay, place_check, record_check, define_check, enter_level, define_record, record_after, outcome, define_of};
 ghost use Rattle.texture.specs.Patch.{rectangle_check, patch_row, patch_store, patched, settle_patch, patch_of};
-ghost use Rattle.texture.specs.Parameters.{min_filter_of, filter_of, wrap_of, ignored, min_filter_check, filter_check, wrap_check, with_min_filter, with_mag_filter, with_wrap_s, with_wrap_t, setting, set_of};
+ghost use Rattle.texture.specs.Parameters.{ignored, setting, set_of};
 
-use answers::{Answer, Refusal};
-use levels::{Filter, MinFilter, MipLevel, Texture, Wrap};
-
-// What define_level answers, with the record as it leaves it.
-#[derive(Clone, Copy)]
-pub struct Defined {
-    pub answer: Answer,
-    pub texture: Texture,
-}
+use answers::Refusal;
+use levels::{Filter, MinFilter, MipLevel, Stored, Texture, Wrap};
 
 #[tactic(auto, using(std::proofs::lemmas::Bool::Decides::nat_tests), unfolding(crate::specs::Define::stays))]
 fn stay_at(m: MipLevel, k: usize, i: usize) -> MipLevel
     ensures { result ≡ cond (stays k i) m absent }
 {
-    let none = MipLevel {
-        present: false,
-        place: 0,
-        width: 0,
-        height: 0,
-    };
-    if i < k {
-        return m;
+    if i < k || k == 0 && 0 < i {
+        m
+    } else {
+        MipLevel::ABSENT
     }
-    if k == 0 {
-        if 0 < i {
-            return m;
-        }
-        return none;
-    }
-    none
 }
 
 // The levels that stay where level k is defined.
-fn staying(levels: [MipLevel; 11], k: usize) -> [MipLevel; 11]
+fn staying(mut levels: [MipLevel; 11], k: usize) -> [MipLevel; 11]
     ensures { result ≡ stay levels k }
 {
-    let none = MipLevel {
-        present: false,
-        place: 0,
-        width: 0,
-        height: 0,
-    };
-    let mut out = [none; 11];
-    for i in 0..11 {
-        let m = levels[i];
-        out[i] = stay_at(m, k, i);
+    for (i, m) in levels.iter_mut().enumerate() {
+        *m = stay_at(*m, k, i);
     }
-    out
+    levels
 }
 
-fn place_check(levels: [MipLevel; 11], len: usize, k: usize, m: MipLevel) -> Answer
+fn place_check(levels: [MipLevel; 11], len: usize, k: usize, m: MipLevel) -> Result<(), Refusal>
     requires { (all (fits len) levels ≡ true) × (m.present ≡ true) × (m.width ≤ 1024) × (m.height ≤ 1024) }
-    ensures { number_of result ≡ place_check len levels k m }
+    ensures { answer_number result ≡ place_check len levels k m }
 {
     if !levels::does_fit(m, len) {
-        return Answer::Refused(Refusal::Place);
+        return Err(Refusal::Place);
     }
-    if levels::any_overlap(staying(levels, k), 0, m, len) {
-        return Answer::Refused(Refusal::Place);
+    let others = Stored {
+        levels: staying(levels, k),
+        len,
+    };
+    if others.any_overlap(0, m) {
+        return Err(Refusal::Place);
     }
-    Answer::Done
+    Ok(())
 }
 
-fn record_check(texture: Texture, len: usize, k: usize, m: MipLevel, bytes: usize) -> Answer
+#[tactic(auto, using(std::proofs::lemmas::Bool::Decides::nat_tests), unfolding(crate::specs::Define::record_check))]
+fn record_check(
+    texture: Texture,
+    len: usize,
+    k: usize,
+    m: MipLevel,
+    bytes: usize,
+) -> Result<(), Refusal>
     requires { (m.present ≡ true) × (m.width ≤ 1024) × (m.height ≤ 1024) }
-    ensures { number_of result ≡ record_check len texture k m bytes }
+    ensures { answer_number result ≡ record_check len texture k m bytes }
 {
     if !levels::is_valid(texture, len) {
-        return Answer::Refused(Refusal::Record);
+        return Err(Refusal::Record);
     }
     if bytes != levels::size_of(m) {
-        return Answer::Refused(Refusal::Bytes);
+        return Err(Refusal::Bytes);
     }
-    let levels = texture.levels;
-    place_check(levels::kept_levels(levels), len, k, m)
+    place_check(levels::kept_levels(texture.levels), len, k, m)
 }
 
+#[tactic(auto, using(std::proofs::lemmas::Bool::Decides::nat_tests), unfolding(crate::specs::Define::define_check))]
 fn define_check(
     texture: Texture,
     len: usize,
     level: u32,
-    width: u32,
-    height: u32,
-    place: usize,
+    m: MipLevel,
     bytes: usize,
-) -> Answer
-    ensures { number_of result ≡ define_check len texture level width height place bytes }
+) -> Result<(), Refusal>
+    requires { m.present ≡ true }
+    ensures { answer_number result ≡ define_check len texture level m.width m.height m.place bytes }
 {
-    if 1024 < width {
-        return Answer::Refused(Refusal::Side);
+    if 1024 < m.width || 1024 < m.height || 10 < level {
+        return Err(Refusal::Side);
     }
-    if 1024 < height {
-        return Answer::Refused(Refusal::Side);
-    }
-    if 10 < level {
-        return Answer::Refused(Refusal::Side);
-    }
-    let m = MipLevel {
-        present: true,
-        place,
-        width,
-        height,
-    };
     record_check(texture, len, level as usize, m, bytes)
 }
 
+#[tactic(auto, unfolding(crate::specs::Define::enter_level))]
 fn enter_level(levels: [MipLevel; 11], k: usize, m: MipLevel) -> [MipLevel; 11]
     requires { k < 11 }
     ensures { result ≡ enter_level levels k m }
@@ -125,23 +99,16 @@ fn enter_level(levels: [MipLevel; 11], k: usize, m: MipLevel) -> [MipLevel; 11]
     next
 }
 
+#[tactic(auto, unfolding(crate::specs::Define::define_record))]
 fn define_record(texture: Texture, k: usize, m: MipLevel) -> Texture
     requires { k < 11 }
     ensures { result ≡ define_record texture k m }
 {
-    let levels = texture.levels;
-    let next = enter_level(levels::kept_levels(levels), k, m);
-    let min_filter = texture.min_filter;
-    let mag_filter = texture.mag_filter;
-    let wrap_s = texture.wrap_s;
-    let wrap_t = texture.wrap_t;
+    let levels = enter_level(levels::kept_levels(texture.levels), k, m);
     Texture {
-        levels: next,
-        max_mipmap_level: levels::calculate_max_complete_mipmap_level(next),
-        min_filter,
-        mag_filter,
-        wrap_s,
-        wrap_t,
+        levels,
+        max_mipmap_level: levels::calculate_max_complete_mipmap_level(levels),
+        ..texture
     }
 }
 
@@ -150,32 +117,7 @@ pub fn copy_in(store: &mut [u8], place: usize, src: &[u8])
     requires { place + length src.now ≤ length store.old }
     ensures { store.new ≡ paste store.old place src.now (length src.now) }
 {
-    for i in 0..src.len() {
-        store[place + i] = src[i];
-    }
-}
-
-// The same by way of a row that is lent.
-fn copy_through(row: &mut [u8], store: &mut [u8], place: usize, src: &[u8])
-    requires { (place + length src.now ≤ length store.old) × (length src.now ≤ length row.old) }
-    ensures { store.new ≡ paste store.old place src.now (length src.now) }
-{
-    let n = src.len();
-    copy_in(row, 0, src);
-    copy_in(store, place, &row[..n]);
-}
-
-// The same. The compiler does not know that store and src lie apart; a row of its own lies apart from both, and with it the bytes are moved as one piece.
-fn copy_row(store: &mut [u8], place: usize, src: &[u8])
-    requires { place + length src.now ≤ length store.old }
-    ensures { store.new ≡ paste store.old place src.now (length src.now) }
-{
-    if 4096 < src.len() {
-        copy_in(store, place, src);
-        return;
-    }
-    let mut row = [0u8; 4096];
-    copy_through(&mut row, store, place, src);
+    store[place..place + src.len()].copy_from_slice(src);
 }
 
 // Puts an image's bytes at `place` in the store and enters the level in the record.
@@ -187,96 +129,63 @@ pub fn define_level(
     height: u32,
     place: usize,
     rgba: &[u8],
-) -> Defined
-    ensures { outcome (number_of result.answer) result.texture store.new ≡ define_of store.old texture level width height place rgba.now }
+) -> Result<Texture, Refusal>
+    ensures { outcome (answer_number result) (record_after texture result) store.new ≡ define_of store.old texture level width height place rgba.now }
 {
-    let answer = define_check(
-        texture,
-        store.len(),
-        level,
+    let m = MipLevel {
+        present: true,
+        place,
         width,
         height,
-        place,
-        rgba.len(),
-    );
-    match answer {
-        Answer::Refused(why) => Defined {
-            answer: Answer::Refused(why),
-            texture,
-        },
-        Answer::Done => {
-            copy_in(store, place, rgba);
-            let m = MipLevel {
-                present: true,
-                place,
-                width,
-                height,
-            };
-            let next = define_record(texture, level as usize, m);
-            Defined {
-                answer: Answer::Done,
-                texture: next,
-            }
-        }
-    }
+    };
+    define_check(texture, store.len(), level, m, rgba.len())?;
+    copy_in(store, place, rgba);
+    Ok(define_record(texture, level as usize, m))
 }
 
-fn rectangle_check(
-    m: MipLevel,
-    xoffset: u32,
-    yoffset: u32,
+// A rectangle of a level's texels: its corner, and its sides.
+#[derive(Clone, Copy)]
+struct Rectangle {
+    x: u32,
+    y: u32,
     width: u32,
     height: u32,
-    bytes: usize,
-) -> Answer
+}
+
+#[tactic(auto, using(std::proofs::lemmas::Bool::Decides::nat_tests), unfolding(crate::specs::Patch::rectangle_check))]
+fn rectangle_check(m: MipLevel, area: Rectangle, bytes: usize) -> Result<(), Refusal>
     requires { (m.width ≤ 1024) × (m.height ≤ 1024) }
-    ensures { number_of result ≡ rectangle_check m xoffset yoffset width height bytes }
+    ensures { answer_number result ≡ rectangle_check m area.x area.y area.width area.height bytes }
 {
-    if (m.width as usize) < (xoffset as usize) + (width as usize) {
-        return Answer::Refused(Refusal::Rectangle);
+    if (m.width as usize) < (area.x as usize) + (area.width as usize) {
+        return Err(Refusal::Rectangle);
     }
-    if (m.height as usize) < (yoffset as usize) + (height as usize) {
-        return Answer::Refused(Refusal::Rectangle);
+    if (m.height as usize) < (area.y as usize) + (area.height as usize) {
+        return Err(Refusal::Rectangle);
     }
-    if bytes < (height as usize) * (width as usize) * 4 {
-        return Answer::Refused(Refusal::Bytes);
+    if bytes < (area.height as usize) * (area.width as usize) * 4 {
+        return Err(Refusal::Bytes);
     }
-    Answer::Done
+    Ok(())
 }
 
-// Row r of a patch that is `width` texels wide.
-fn patch_row(
-    store: &mut [u8],
-    m: MipLevel,
-    x: usize,
-    y: usize,
-    width: usize,
-    patch: &[u8],
-    r: usize,
-)
-    requires { (x + width ≤ m.width) × (y + r < m.height) × (m.place + size_of m ≤ length store.old) × (r * (width * 4) + width * 4 ≤ length patch.now) }
-    ensures { store.new ≡ patch_row m x y width patch.now r store.old }
+// Row r of a patch.
+fn patch_row(store: &mut [u8], m: MipLevel, area: Rectangle, patch: &[u8], r: usize)
+    requires { (area.x + area.width ≤ m.width) × (area.y + r < m.height) × (m.place + size_of m ≤ length store.old) × (r * (area.width * 4) + area.width * 4 ≤ length patch.now) }
+    ensures { store.new ≡ patch_row m area.x area.y area.width patch.now r store.old }
 {
-    let at = m.place + ((y + r) * (m.width as usize) + x) * 4;
-    let from = r * (width * 4);
-    let end = from + width * 4;
-    copy_row(store, at, &patch[from..end]);
+    let at = m.place + (((area.y as usize) + r) * (m.width as usize) + (area.x as usize)) * 4;
+    let n = (area.width as usize) * 4;
+    let from = r * n;
+    copy_in(store, at, &patch[from..from + n]);
 }
 
-fn patch_rows(
-    store: &mut [u8],
-    m: MipLevel,
-    x: usize,
-    y: usize,
-    width: usize,
-    height: usize,
-    patch: &[u8],
-)
-    requires { (x + width ≤ m.width) × (y + height ≤ m.height) × (m.place + size_of m ≤ length store.old) × (height * (width * 4) ≤ length patch.now) }
-    ensures { store.new ≡ patch_store m x y width height patch.now store.old }
+fn patch_rows(store: &mut [u8], m: MipLevel, area: Rectangle, patch: &[u8])
+    requires { (area.x + area.width ≤ m.width) × (area.y + area.height ≤ m.height) × (m.place + size_of m ≤ length store.old) × (area.height * (area.width * 4) ≤ length patch.now) }
+    ensures { store.new ≡ patch_store m area.x area.y area.width area.height patch.now store.old }
 {
-    for r in 0..height {
-        patch_row(store, m, x, y, width, patch, r);
+    for r in 0..area.height as usize {
+        patch_row(store, m, area, patch, r);
     }
 }
 
@@ -289,26 +198,19 @@ pub fn patch_in_level(
     width: u32,
     height: u32,
     patch: &[u8],
-) -> Answer
+) -> Result<(), Refusal>
     requires { Fits (length store.old) m }
-    ensures { patched (number_of result) store.new ≡ settle_patch (rectangle_check m xoffset yoffset width height (length patch.now)) store.old (patch_store m xoffset yoffset width height patch.now store.old) }
+    ensures { patched (answer_number result) store.new ≡ settle_patch (rectangle_check m xoffset yoffset width height (length patch.now)) store.old (patch_store m xoffset yoffset width height patch.now store.old) }
 {
-    let answer = rectangle_check(m, xoffset, yoffset, width, height, patch.len());
-    match answer {
-        Answer::Refused(why) => Answer::Refused(why),
-        Answer::Done => {
-            patch_rows(
-                store,
-                m,
-                xoffset as usize,
-                yoffset as usize,
-                width as usize,
-                height as usize,
-                patch,
-            );
-            Answer::Done
-        }
-    }
+    let area = Rectangle {
+        x: xoffset,
+        y: yoffset,
+        width,
+        height,
+    };
+    rectangle_check(m, area, patch.len())?;
+    patch_rows(store, m, area, patch);
+    Ok(())
 }
 
 // Puts a patch's rows into a rectangle of a level's texels.
@@ -321,245 +223,59 @@ pub fn patch_level(
     width: u32,
     height: u32,
     patch: &[u8],
-) -> Answer
-    ensures { patched (number_of result) store.new ≡ patch_of store.old texture level xoffset yoffset width height patch.now }
+) -> Result<(), Refusal>
+    ensures { patched (answer_number result) store.new ≡ patch_of store.old texture level xoffset yoffset width height patch.now }
 {
     if !levels::is_valid(texture, store.len()) {
-        return Answer::Refused(Refusal::Record);
+        return Err(Refusal::Record);
     }
     if 10 < level {
-        return Answer::Refused(Refusal::Level);
+        return Err(Refusal::Level);
     }
-    let levels = texture.levels;
-    let m = levels::image_level(levels, level as usize);
+    let m = levels::image_level(texture.levels, level as usize);
     if !m.present {
-        return Answer::Refused(Refusal::Level);
+        return Err(Refusal::Level);
     }
     patch_in_level(store, m, xoffset, yoffset, width, height, patch)
 }
 
-// A code's value, where it has one.
-#[derive(Clone, Copy)]
-pub enum MinFilterCode {
-    Known(MinFilter),
-    Unknown,
-}
-
-#[derive(Clone, Copy)]
-pub enum FilterCode {
-    Known(Filter),
-    Unknown,
-}
-
-#[derive(Clone, Copy)]
-pub enum WrapCode {
-    Known(Wrap),
-    Unknown,
-}
-
-pub fn min_filter_from_enum(value: u32) -> MinFilterCode
-    ensures { result ≡ min_filter_of value }
-{
-    if value == consts::GL_NEAREST {
-        return MinFilterCode::Known(MinFilter::Nearest);
-    }
-    if value == consts::GL_LINEAR {
-        return MinFilterCode::Known(MinFilter::Linear);
-    }
-    if value == consts::GL_NEAREST_MIPMAP_NEAREST {
-        return MinFilterCode::Known(MinFilter::NearestMipmapNearest);
-    }
-    if value == consts::GL_LINEAR_MIPMAP_NEAREST {
-        return MinFilterCode::Known(MinFilter::LinearMipmapNearest);
-    }
-    if value == consts::GL_NEAREST_MIPMAP_LINEAR {
-        return MinFilterCode::Known(MinFilter::NearestMipmapLinear);
-    }
-    if value == consts::GL_LINEAR_MIPMAP_LINEAR {
-        return MinFilterCode::Known(MinFilter::LinearMipmapLinear);
-    }
-    MinFilterCode::Unknown
-}
-
-pub fn filter_from_enum(value: u32) -> FilterCode
-    ensures { result ≡ filter_of value }
-{
-    if value == consts::GL_NEAREST {
-        return FilterCode::Known(Filter::Nearest);
-    }
-    if value == consts::GL_LINEAR {
-        return FilterCode::Known(Filter::Linear);
-    }
-    FilterCode::Unknown
-}
-
-pub fn wrap_from_enum(value: u32) -> WrapCode
-    ensures { result ≡ wrap_of value }
-{
-    if value == consts::GL_REPEAT {
-        return WrapCode::Known(Wrap::Repeat);
-    }
-    if value == consts::GL_CLAMP_TO_EDGE {
-        return WrapCode::Known(Wrap::ClampToEdge);
-    }
-    WrapCode::Unknown
-}
-
+#[tactic(auto, using(std::proofs::lemmas::Bool::Decides::nat_tests), unfolding(crate::specs::Parameters::ignored))]
 fn is_ignored(pname: u32) -> bool
     ensures { result ≡ ignored pname }
 {
-    if pname == consts::GL_TEXTURE_MIN_LOD_SGIS {
-        return true;
-    }
-    if pname == consts::GL_TEXTURE_MAX_LOD_SGIS {
-        return true;
-    }
-    if pname == consts::GL_TEXTURE_BASE_LEVEL_SGIS {
-        return true;
-    }
-    if pname == consts::GL_TEXTURE_MAX_LEVEL_SGIS {
-        return true;
-    }
-    pname == consts::GL_TEXTURE_LOD_BIAS_EXT
-}
-
-// What set_parameter answers, with the record as it leaves it.
-#[derive(Clone, Copy)]
-pub struct ParameterSet {
-    pub answer: Answer,
-    pub texture: Texture,
-}
-
-fn refuse_code(texture: Texture) -> ParameterSet
-    ensures { (number_of result.answer ≡ 16) × (result.texture ≡ texture) }
-{
-    ParameterSet {
-        answer: Answer::Refused(Refusal::Code),
-        texture,
-    }
-}
-
-fn set_min_filter(texture: Texture, value: u32) -> ParameterSet
-    ensures { (number_of result.answer ≡ min_filter_check (min_filter_of value)) × (result.texture ≡ with_min_filter (min_filter_of value) texture) }
-{
-    match min_filter_from_enum(value) {
-        MinFilterCode::Known(min_filter) => {
-            let levels = texture.levels;
-            let mag_filter = texture.mag_filter;
-            let wrap_s = texture.wrap_s;
-            let wrap_t = texture.wrap_t;
-            ParameterSet {
-                answer: Answer::Done,
-                texture: Texture {
-                    levels,
-                    max_mipmap_level: texture.max_mipmap_level,
-                    min_filter,
-                    mag_filter,
-                    wrap_s,
-                    wrap_t,
-                },
-            }
-        }
-        MinFilterCode::Unknown => refuse_code(texture),
-    }
-}
-
-fn set_mag_filter(texture: Texture, value: u32) -> ParameterSet
-    ensures { (number_of result.answer ≡ filter_check (filter_of value)) × (result.texture ≡ with_mag_filter (filter_of value) texture) }
-{
-    match filter_from_enum(value) {
-        FilterCode::Known(mag_filter) => {
-            let levels = texture.levels;
-            let min_filter = texture.min_filter;
-            let wrap_s = texture.wrap_s;
-            let wrap_t = texture.wrap_t;
-            ParameterSet {
-                answer: Answer::Done,
-                texture: Texture {
-                    levels,
-                    max_mipmap_level: texture.max_mipmap_level,
-                    min_filter,
-                    mag_filter,
-                    wrap_s,
-                    wrap_t,
-                },
-            }
-        }
-        FilterCode::Unknown => refuse_code(texture),
-    }
-}
-
-fn set_wrap_s(texture: Texture, value: u32) -> ParameterSet
-    ensures { (number_of result.answer ≡ wrap_check (wrap_of value)) × (result.texture ≡ with_wrap_s (wrap_of value) texture) }
-{
-    match wrap_from_enum(value) {
-        WrapCode::Known(wrap_s) => {
-            let levels = texture.levels;
-            let min_filter = texture.min_filter;
-            let mag_filter = texture.mag_filter;
-            let wrap_t = texture.wrap_t;
-            ParameterSet {
-                answer: Answer::Done,
-                texture: Texture {
-                    levels,
-                    max_mipmap_level: texture.max_mipmap_level,
-                    min_filter,
-                    mag_filter,
-                    wrap_s,
-                    wrap_t,
-                },
-            }
-        }
-        WrapCode::Unknown => refuse_code(texture),
-    }
-}
-
-fn set_wrap_t(texture: Texture, value: u32) -> ParameterSet
-    ensures { (number_of result.answer ≡ wrap_check (wrap_of value)) × (result.texture ≡ with_wrap_t (wrap_of value) texture) }
-{
-    match wrap_from_enum(value) {
-        WrapCode::Known(wrap_t) => {
-            let levels = texture.levels;
-            let min_filter = texture.min_filter;
-            let mag_filter = texture.mag_filter;
-            let wrap_s = texture.wrap_s;
-            ParameterSet {
-                answer: Answer::Done,
-                texture: Texture {
-                    levels,
-                    max_mipmap_level: texture.max_mipmap_level,
-                    min_filter,
-                    mag_filter,
-                    wrap_s,
-                    wrap_t,
-                },
-            }
-        }
-        WrapCode::Unknown => refuse_code(texture),
-    }
+    matches!(
+        pname,
+        consts::GL_TEXTURE_MIN_LOD_SGIS
+            | consts::GL_TEXTURE_MAX_LOD_SGIS
+            | consts::GL_TEXTURE_BASE_LEVEL_SGIS
+            | consts::GL_TEXTURE_MAX_LEVEL_SGIS
+            | consts::GL_TEXTURE_LOD_BIAS_EXT
+    )
 }
 
 // Sets one of the four parameters, or none for a code accepted without effect.
-pub fn set_parameter(texture: Texture, pname: u32, value: u32) -> ParameterSet
-    ensures { setting (number_of result.answer) result.texture ≡ set_of texture pname value }
+#[tactic(auto, using(std::proofs::lemmas::Bool::Decides::nat_tests), unfolding(crate::specs::Parameters::set_of, crate::specs::Parameters::set_check, crate::specs::Parameters::set_record))]
+pub fn set_parameter(texture: Texture, pname: u32, value: u32) -> Result<Texture, Refusal>
+    ensures { setting (answer_number result) (record_after texture result) ≡ set_of texture pname value }
 {
-    if pname == consts::GL_TEXTURE_MIN_FILTER {
-        return set_min_filter(texture, value);
+    match pname {
+        consts::GL_TEXTURE_MIN_FILTER => Ok(Texture {
+            min_filter: MinFilter::try_from(value)?,
+            ..texture
+        }),
+        consts::GL_TEXTURE_MAG_FILTER => Ok(Texture {
+            mag_filter: Filter::try_from(value)?,
+            ..texture
+        }),
+        consts::GL_TEXTURE_WRAP_S => Ok(Texture {
+            wrap_s: Wrap::try_from(value)?,
+            ..texture
+        }),
+        consts::GL_TEXTURE_WRAP_T => Ok(Texture {
+            wrap_t: Wrap::try_from(value)?,
+            ..texture
+        }),
+        _ if is_ignored(pname) => Ok(texture),
+        _ => Err(Refusal::Code),
     }
-    if pname == consts::GL_TEXTURE_MAG_FILTER {
-        return set_mag_filter(texture, value);
-    }
-    if pname == consts::GL_TEXTURE_WRAP_S {
-        return set_wrap_s(texture, value);
-    }
-    if pname == consts::GL_TEXTURE_WRAP_T {
-        return set_wrap_t(texture, value);
-    }
-    if is_ignored(pname) {
-        return ParameterSet {
-            answer: Answer::Done,
-            texture,
-        };
-    }
-    refuse_code(texture)
 }

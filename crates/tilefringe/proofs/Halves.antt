@@ -3,13 +3,14 @@
 use Prim.Native.Nat.{ℕ, ◌*◌, ◌/◌, ◌%◌, ◌<◌}
 use mathlib.Core.Path.{◌≡◌, refl, sym}
 use mathlib.Core.Bool.{Bool, true, false, cond, true≢false}
-use mathlib.Core.List.{List}
+use mathlib.Core.List.{List, []}
 use native.Mathlib.Nat.{mul-le-mul}
 use native.Mathlib.Omega.{arith}
 use borrow.Author.Tests.{eqb-true}
 use lib.Dec.{eqb}
 use lib.ListN.{length}
 use lib.Ieee.{Float}
+use Rattle.std.proofs.Common.{unwrap_or}
 use Rattle.levels.specs.declared.Texture.{Texture}
 use Rattle.scissor.specs.Check.{target_fits}
 use Rattle.scissor.proofs.Outcome.{target_is}
@@ -66,14 +67,14 @@ module _ (store : List ℕ) (width height : ℕ) (units settings stages vertices
   known = all_known (read_units units) (read_settings settings) (read_stages stages) (read_vertices vertices)
 
   abbrev drew : Outcome
-  drew = draw_of store width height (args_of (read_settings settings) (read_stages stages) (read_vertices vertices)) (read_units units).units cs ds
+  drew = draw_of store width height (args_of (read_settings settings) (read_stages stages) (read_vertices vertices)) (unwrap_or (read_units units) []) cs ds
 
   pub told_apart : known ≡ true → ToldApart (draw_call store width height units settings stages vertices cs ds).answer drew.answer
   unfolding draw_call
   told_apart e = go known e
     where
       go : (y : Bool) → y ≡ true → ToldApart (cond y (called_of drew) (called (255 * 4294967296) cs ds)).answer drew.answer
-      go true e = draw_told_apart store width height (args_of (read_settings settings) (read_stages stages) (read_vertices vertices)) (read_units units).units cs ds
+      go true e = draw_told_apart store width height (args_of (read_settings settings) (read_stages stages) (read_vertices vertices)) (unwrap_or (read_units units) []) cs ds
       go false e = absurd (true≢false (sym e))
 
   pub wrong_layout : known ≡ false → (draw_call store width height units settings stages vertices cs ds).answer ≡ 255 * 4294967296

@@ -1,5 +1,6 @@
 -- What a sample answers and leaves, over a record's layout and the store: docs/INTERFACE.md, Sampling.
-use Rattle.std.specs.Prelude.{cond, List, ℕ, ◌+◌, ◌*◌, Float}
+use Rattle.std.specs.Prelude.{List, ℕ, ◌+◌, ◌*◌, Float}
+use Rattle.std.specs.Option.{option_map_or}
 use Rattle.mipmaps.specs.declared.Coordinates.{Coordinates}
 use Rattle.sampler.specs.declared.Texel.{Texel}
 use Rattle.sampler.specs.Samples.{Outcome, refused, sampled, sample_call}
@@ -26,4 +27,4 @@ ended x (refused n) = told n x
 ended x (sampled t) = told 0 (packed t)
 
 unfoldable pub layout_sample : List ℕ → List ℕ → Coordinates → ℕ → Told
-layout_sample b store p x = cond (read_of b).known (ended x (sample_call store (read_of b).texture p)) (told 255 x)
+layout_sample b store p x = option_map_or (λ t. ended x (sample_call store t p)) (read_of b) (told 255 x)

@@ -1,5 +1,6 @@
 -- What the calls on texture objects answer and leave, over a record's layout and the store: docs/INTERFACE.md, Texture record.
 use Rattle.std.specs.Prelude.{cond, List, [], ℕ, eqb, length}
+use Rattle.std.specs.Option.{option_map_or}
 use Rattle.levels.specs.declared.Texture.{Texture}
 use Rattle.levels.specs.Levels.{new_texture}
 use Rattle.texture.specs.Define.{Outcome, define_of}
@@ -27,16 +28,16 @@ abbrev pub defined : List ℕ → Outcome → Lent
 defined b o = lent o.answer (written o.answer b o.texture) o.store
 
 unfoldable pub define_call : List ℕ → List ℕ → ℕ → ℕ → ℕ → ℕ → List ℕ → Lent
-define_call b s k w h place rgba = cond (read_of b).known (defined b (define_of s (read_of b).texture k w h place rgba)) (lent 255 b s)
+define_call b s k w h place rgba = option_map_or (λ t. defined b (define_of s t k w h place rgba)) (read_of b) (lent 255 b s)
 
 abbrev pub patched : List ℕ → Patched → Lent
 patched b o = lent o.answer b o.store
 
 unfoldable pub patch_call : List ℕ → List ℕ → ℕ → ℕ → ℕ → ℕ → ℕ → List ℕ → Lent
-patch_call b s k x y w h patch = cond (read_of b).known (patched b (patch_of s (read_of b).texture k x y w h patch)) (lent 255 b s)
+patch_call b s k x y w h patch = option_map_or (λ t. patched b (patch_of s t k x y w h patch)) (read_of b) (lent 255 b s)
 
 abbrev pub set : List ℕ → Setting → Lent
 set b o = lent o.answer (written o.answer b o.texture) []
 
 unfoldable pub set_call : List ℕ → ℕ → ℕ → Lent
-set_call b p v = cond (read_of b).known (set b (set_of (read_of b).texture p v)) (lent 255 b [])
+set_call b p v = option_map_or (λ t. set b (set_of t p v)) (read_of b) (lent 255 b [])

@@ -4,8 +4,6 @@ ghost use Rattle.texels.specs.Texels.{format_of, format_bytes};
 ghost use Rattle.texels.specs.Plain.{plain_check, plain_left};
 ghost use Rattle.compressed.specs.Compressed.{compressed_of, size_of, size_check, compressed_check, compressed_left};
 
-use compressed::Sized;
-
 #[unsafe(no_mangle)]
 pub extern "C" fn tf_bytes_per_texel(format: u32, ty: u32) -> usize
     ensures { result ≡ format_bytes (format_of format ty) }
@@ -24,7 +22,7 @@ pub extern "C" fn tf_decode_to_rgba(
 ) -> u32
     ensures { (result ≡ plain_check (format_of format ty) width height (length s.now) (length out.old)) × (out.new ≡ plain_left (format_of format ty) width height s.now out.old) }
 {
-    texels::decode_to_rgba(s, width, height, format, ty, out).number()
+    answers::number(texels::decode_to_rgba(s, width, height, format, ty, out))
 }
 
 #[unsafe(no_mangle)]
@@ -37,7 +35,7 @@ pub extern "C" fn tf_decode_compressed_to_rgba(
 ) -> u32
     ensures { (result ≡ compressed_check (compressed_of format) width height (length s.now) (length out.old)) × (out.new ≡ compressed_left (compressed_of format) width height s.now out.old) }
 {
-    compressed::decode_compressed_to_rgba(s, width, height, format, out).number()
+    answers::number(compressed::decode_compressed_to_rgba(s, width, height, format, out))
 }
 
 #[unsafe(no_mangle)]
@@ -50,10 +48,10 @@ pub extern "C" fn tf_compressed_image_size(
     ensures { (result ≡ size_check (compressed_of format) width height) × (size.new ≡ cond (eqb (size_check (compressed_of format) width height) 0) (size_of (compressed_of format) width height) size.old) }
 {
     match compressed::compressed_image_size(format, width, height) {
-        Sized::Bytes(n) => {
+        Ok(n) => {
             *size = n;
             0
         }
-        Sized::Refused(why) => why.number(),
+        Err(why) => why.number(),
     }
 }

@@ -3,18 +3,12 @@ ghost use Rattle.std.specs.Prelude.{◌≡◌, ◌<◌};
 ghost use Rattle.tilefringe.specs.SampleCalls.{coordinates, packed, told, layout_sample};
 
 use mipmaps::Coordinates;
-use sampler::{SampleAnswer, Texel};
-
-fn wide(x: u8) -> u32
-    ensures { (result ≡ x) × (result < 256) }
-{
-    x as u32
-}
+use sampler::Texel;
 
 fn packed_texel(x: Texel) -> u32
     ensures { result ≡ packed x }
 {
-    wide(x.r) + wide(x.g) * 256 + wide(x.b) * 65536 + wide(x.a) * 16777216
+    u32::from_le_bytes([x.r, x.g, x.b, x.a])
 }
 
 #[unsafe(no_mangle)]
@@ -31,11 +25,9 @@ pub extern "C" fn tf_sample(
 ) -> u32
     ensures { told result texel.new ≡ layout_sample layout.now store.now (coordinates s t dsdx dtdx dsdy dtdy) texel.old }
 {
-    let read = layouts::read_record(layout);
-    if !read.known {
+    let Some(texture) = layouts::read_record(layout) else {
         return 255;
-    }
-    let texture = read.texture;
+    };
     let p = Coordinates {
         s,
         t,
@@ -45,10 +37,10 @@ pub extern "C" fn tf_sample(
         dtdy,
     };
     match sampler::sample(store, texture, p) {
-        SampleAnswer::Sampled(x) => {
-            *texel = packed_texel(x.texel);
+        Ok(x) => {
+            *texel = packed_texel(x);
             0
         }
-        SampleAnswer::Refused(why) => why.number(),
+        Err(why) => why.number(),
     }
 }

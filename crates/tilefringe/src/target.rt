@@ -1,20 +1,19 @@
 // Clears, the 5-6-5 export, and the codes of comparisons and blend factors.
 ghost use Rattle.std.specs.Prelude.{◌≡◌, length, [], ◌∷◌};
-ghost use Rattle.settings.specs.Settings.{read_compare, read_factor, compare_number, factor_number};
+ghost use Rattle.settings.specs.Settings.{read_compare, read_factor};
+ghost use Rattle.answers.specs.Results.{answer_number};
 ghost use Rattle.render_target.specs.Clear.{clear_color_check, clear_color_of, clear_depth_check, clear_depth_of};
 ghost use Rattle.export.specs.Export.{export_check, rgb565_of};
 ghost use Rattle.tilefringe.specs.Target.{scissor_of};
 
-use settings::{BlendFactor, CompareFunc, Scissor, ScissorBox};
+use settings::{BlendFactor, CompareFunc, ScissorBox};
 
 // The scissor: none where boxed is 0.
-fn scissor(boxed: u32, x: i32, y: i32, width: i32, height: i32) -> Scissor
+#[tactic(auto, using(std::proofs::lemmas::Bool::Decides::nat_tests), unfolding(crate::specs::Target::scissor_of))]
+fn scissor(boxed: u32, x: i32, y: i32, width: i32, height: i32) -> Option<ScissorBox>
     ensures { result ≡ scissor_of boxed x y width height }
 {
-    if boxed == 0 {
-        return Scissor::Whole;
-    }
-    Scissor::Within(ScissorBox {
+    (boxed != 0).then_some(ScissorBox {
         x,
         y,
         width,
@@ -43,7 +42,7 @@ pub extern "C" fn tf_clear_color(
 {
     let s = scissor(boxed, box_x, box_y, box_width, box_height);
     let rgba = [r, g, b, a];
-    render_target::clear_color(colors, depths_len, width, height, rgba, s).number()
+    answers::number(render_target::clear_color(colors, depths_len, width, height, rgba, s))
 }
 
 #[unsafe(no_mangle)]
@@ -63,7 +62,7 @@ pub extern "C" fn tf_clear_depth(
     ensures depths_after { depths.new ≡ clear_depth_of width height colors_len value (scissor_of boxed box_x box_y box_width box_height) depths.old }
 {
     let s = scissor(boxed, box_x, box_y, box_width, box_height);
-    render_target::clear_depth(depths, colors_len, width, height, value, s).number()
+    answers::number(render_target::clear_depth(depths, colors_len, width, height, value, s))
 }
 
 #[unsafe(no_mangle)]
@@ -77,21 +76,21 @@ pub extern "C" fn tf_to_rgb565(
     ensures answer { result ≡ export_check width height (length colors.now) depths_len }
     ensures out_after { out.new ≡ rgb565_of width height depths_len colors.now out.old }
 {
-    export::to_rgb565(colors, depths_len, width, height, out).number()
+    answers::number(export::to_rgb565(colors, depths_len, width, height, out))
 }
 
 // Whether a comparison's code is known.
 #[unsafe(no_mangle)]
 pub extern "C" fn tf_compare_func(code: u32) -> u32
-    ensures { result ≡ compare_number (read_compare code) }
+    ensures { result ≡ answer_number (read_compare code) }
 {
-    CompareFunc::from_enum(code).number()
+    answers::number(CompareFunc::try_from(code))
 }
 
 // Whether a blend factor's code is known.
 #[unsafe(no_mangle)]
 pub extern "C" fn tf_blend_factor(code: u32) -> u32
-    ensures { result ≡ factor_number (read_factor code) }
+    ensures { result ≡ answer_number (read_factor code) }
 {
-    BlendFactor::from_enum(code).number()
+    answers::number(BlendFactor::try_from(code))
 }

@@ -1,22 +1,26 @@
 // The operations on texture objects. A record is lent as its layout, and rewritten where a call is done.
 ghost use Rattle.std.specs.Prelude.{◌≡◌, [], length};
-ghost use Rattle.answers.specs.Numbers.{number_of};
+ghost use Rattle.answers.specs.Results.{answer_number};
+ghost use Rattle.layouts.specs.Records.{read_texture};
+ghost use Rattle.levels.specs.declared.Texture.{Texture};
+ghost use Rattle.texture.specs.Define.{record_after};
+ghost use Rattle.texture.specs.Patch.{patched, patch_of};
 ghost use Rattle.tilefringe.specs.TextureCalls.{lent, written, new_call, define_call, patch_call, set_call};
 
-use answers::Answer;
+use answers::Refusal;
 use levels::Texture;
 
-fn write_back(layout: &mut [u8], answer: Answer, texture: Texture) -> u32
+// A layout holds no record.
+const WRONG_LAYOUT: u32 = 255;
+
+// Rewrites the layout with the record that a call has left, where it is done.
+fn write_back(layout: &mut [u8], answer: Result<Texture, Refusal>) -> Result<(), Refusal>
     requires { length layout.old ≡ 244 }
-    ensures { (result ≡ number_of answer) × (layout.new ≡ written (number_of answer) layout.old texture) }
+    ensures number { answer_number result ≡ answer_number answer }
+    ensures layout { (t : Texture) → layout.new ≡ written (answer_number answer) layout.old (record_after t answer) }
 {
-    match answer {
-        Answer::Refused(why) => why.number(),
-        Answer::Done => {
-            layouts::write_record(layout, texture);
-            0
-        }
-    }
+    layouts::write_record(layout, answer?);
+    Ok(())
 }
 
 #[unsafe(no_mangle)]
@@ -24,7 +28,7 @@ pub extern "C" fn tf_new_texture(layout: &mut [u8]) -> u32
     ensures { lent result layout.new [] ≡ new_call layout.old }
 {
     if layout.len() != 244 {
-        return 255;
+        return WRONG_LAYOUT;
     }
     layouts::write_record(layout, Texture::new());
     0
@@ -42,15 +46,38 @@ pub extern "C" fn tf_define_level(
 ) -> u32
     ensures { lent result layout.new store.new ≡ define_call layout.old store.old level width height place rgba.now }
 {
-    let read = layouts::read_record(layout);
-    if !read.known {
-        return 255;
-    }
-    let texture = read.texture;
+    let Some(texture) = layouts::read_record(layout) else {
+        return WRONG_LAYOUT;
+    };
     let defined = texture::define_level(store, texture, level, width, height, place, rgba);
-    let answer = defined.answer;
-    let next = defined.texture;
-    write_back(layout, answer, next)
+    answers::number(write_back(layout, defined))
+}
+
+// A patch of the record that a layout holds, told from the layout as it stands.
+fn patch_at(
+    layout: &[u8],
+    store: &mut [u8],
+    level: u32,
+    xoffset: u32,
+    yoffset: u32,
+    width: u32,
+    height: u32,
+    patch: &[u8],
+) -> Result<(), Refusal>
+    requires { length layout.now ≡ 244 }
+    ensures { patched (answer_number result) store.new ≡ patch_of store.old (read_texture layout.now) level xoffset yoffset width height patch.now }
+{
+    if !layouts::is_valid_at(layout, store.len()) {
+        return Err(Refusal::Record);
+    }
+    if 10 < level {
+        return Err(Refusal::Level);
+    }
+    let m = layouts::image_level_at(layout, level as usize);
+    if !m.present {
+        return Err(Refusal::Level);
+    }
+    texture::patch_in_level(store, m, xoffset, yoffset, width, height, patch)
 }
 
 #[unsafe(no_mangle)]
@@ -67,33 +94,19 @@ pub extern "C" fn tf_patch_level(
     ensures { lent result layout.now store.new ≡ patch_call layout.now store.old level xoffset yoffset width height patch.now }
 {
     if !layouts::is_known(layout) {
-        return 255;
+        return WRONG_LAYOUT;
     }
-    if !layouts::is_valid_at(layout, store.len()) {
-        return 8;
-    }
-    if 10 < level {
-        return 12;
-    }
-    let m = layouts::image_level_at(layout, level as usize);
-    if !m.present {
-        return 12;
-    }
-    let answer = texture::patch_in_level(store, m, xoffset, yoffset, width, height, patch);
-    answer.number()
+    let answer = patch_at(layout, store, level, xoffset, yoffset, width, height, patch);
+    answers::number(answer)
 }
 
 #[unsafe(no_mangle)]
 pub extern "C" fn tf_set_parameter(layout: &mut [u8], pname: u32, value: u32) -> u32
     ensures { lent result layout.new [] ≡ set_call layout.old pname value }
 {
-    let read = layouts::read_record(layout);
-    if !read.known {
-        return 255;
-    }
-    let texture = read.texture;
+    let Some(texture) = layouts::read_record(layout) else {
+        return WRONG_LAYOUT;
+    };
     let set = texture::set_parameter(texture, pname, value);
-    let answer = set.answer;
-    let next = set.texture;
-    write_back(layout, answer, next)
+    answers::number(write_back(layout, set))
 }

@@ -1,10 +1,11 @@
 // A vertex in clip space: its seventeen floats, its distances to the seven clip planes, and the vertex between two.
 #![tactic(auto)]
 
-ghost use Rattle.std.specs.Prelude.{◌≡◌};
-ghost use Rattle.vertices.specs.Vertex.{new_vertex, mix_of, mix4, mix8, lerp, distance, inside, inside_frustum};
+ghost use Rattle.std.specs.Prelude.{◌≡◌, ◌<◌};
+ghost use Rattle.std.specs.List.{list_all};
+ghost use Rattle.vertices.specs.Vertex.{new_vertex, mix_of, mix_at, mixed, lerp, plane_at, distance, inside, inside_frustum};
 
-#[derive(Clone, Copy)]
+#[derive(Clone, Copy, Debug, PartialEq)]
 pub struct Vertex {
     // Clip-space position, w not yet divided out.
     pub pos: [f32; 4],
@@ -14,103 +15,119 @@ pub struct Vertex {
     pub fog_depth: f32,
 }
 
-impl Vertex {
-    pub fn new() -> Self
-        ensures { result ≡ new_vertex }
-    {
-        Vertex {
-            pos: [0.0, 0.0, 0.0, 1.0],
-            color: [1.0, 1.0, 1.0, 1.0],
-            texcoord: [0.0, 0.0, 0.0, 0.0, 0.0, 0.0, 0.0, 0.0],
-            fog_depth: 0.0,
+// The six sides of the frustum, and w above 0.
+#[derive(Clone, Copy, Debug, PartialEq, Eq, Hash)]
+pub enum Plane {
+    Left,
+    Right,
+    Bottom,
+    Top,
+    Near,
+    Far,
+    PositiveW,
+}
+
+impl Plane {
+    // In the order that a polygon is cut by them.
+    pub const ALL: [Plane; 7] = [
+        Plane::Left,
+        Plane::Right,
+        Plane::Bottom,
+        Plane::Top,
+        Plane::Near,
+        Plane::Far,
+        Plane::PositiveW,
+    ];
+}
+
+// The plane at a place of that order; past its end, the last.
+impl From<usize> for Plane {
+    ghost from_gives = { λ n p. p ≡ plane_at n };
+
+    fn from(n: usize) -> Self {
+        match n {
+            0 => Plane::Left,
+            1 => Plane::Right,
+            2 => Plane::Bottom,
+            3 => Plane::Top,
+            4 => Plane::Near,
+            5 => Plane::Far,
+            _ => Plane::PositiveW,
         }
     }
 }
 
+#[tactic(auto, unfolding(crate::specs::Vertex::mix_of))]
 fn mix(x: f32, y: f32, t: f32) -> f32
     ensures { result ≡ mix_of t x y }
 {
     x + (y - x) * t
 }
 
-fn lerp4(a: [f32; 4], b: [f32; 4], t: f32) -> [f32; 4]
-    ensures { result ≡ mix4 t a b }
+// Each number of a mixed with b's.
+fn mix_each<const N: usize>(a: &[f32; N], b: &[f32; N], t: f32) -> [f32; N]
+    ensures { result ≡ mixed N t a.now b.now }
 {
-    [
-        mix(a[0], b[0], t),
-        mix(a[1], b[1], t),
-        mix(a[2], b[2], t),
-        mix(a[3], b[3], t),
-    ]
-}
-
-fn lerp8(a: [f32; 8], b: [f32; 8], t: f32) -> [f32; 8]
-    ensures { result ≡ mix8 t a b }
-{
-    [
-        mix(a[0], b[0], t),
-        mix(a[1], b[1], t),
-        mix(a[2], b[2], t),
-        mix(a[3], b[3], t),
-        mix(a[4], b[4], t),
-        mix(a[5], b[5], t),
-        mix(a[6], b[6], t),
-        mix(a[7], b[7], t),
-    ]
-}
-
-// The vertex at t of the way from a to b, each of the seventeen floats mixed alike.
-pub fn lerp_vertex(a: Vertex, b: Vertex, t: f32) -> Vertex
-    ensures { result ≡ lerp t a b }
-{
-    let pa = a.pos;
-    let pb = b.pos;
-    let ca = a.color;
-    let cb = b.color;
-    let ta = a.texcoord;
-    let tb = b.texcoord;
-    let pos = lerp4(pa, pb, t);
-    let color = lerp4(ca, cb, t);
-    let texcoord = lerp8(ta, tb, t);
-    Vertex {
-        pos,
-        color,
-        texcoord,
-        fog_depth: mix(a.fog_depth, b.fog_depth, t),
+    let mut mixed = [0.0; N];
+    for i in 0..N {
+        mixed[i] = mix(a[i], b[i], t);
     }
+    mixed
 }
 
 const CLIP_W_EPSILON: f32 = 1.0e-8;
 
-// How far inside a plane a vertex is: left, right, bottom, top, near, far, and w above 0.
-pub fn clip_distance(vertex: Vertex, plane: usize) -> f32
-    ensures { result ≡ distance plane vertex }
-{
-    let p = vertex.pos;
-    match plane {
-        0 => p[3] + p[0],
-        1 => p[3] - p[0],
-        2 => p[3] + p[1],
-        3 => p[3] - p[1],
-        4 => p[3] + p[2],
-        5 => p[3] - p[2],
-        _ => p[3] - CLIP_W_EPSILON,
-    }
-}
-
-pub fn is_inside(vertex: Vertex, plane: usize) -> bool
-    ensures { result ≡ inside plane vertex }
-{
-    clip_distance(vertex, plane) >= 0.0
-}
-
-pub fn inside_frustum(vertex: Vertex) -> bool
-    ensures { result ≡ inside_frustum vertex }
-{
-    for plane in 0..7 {
-        if !is_inside(vertex, plane) {
-            return false;
+impl Vertex {
+    pub fn new() -> Self
+        ensures { result ≡ new_vertex }
+    {
+        Vertex {
+            pos: [0.0, 0.0, 0.0, 1.0],
+            color: [1.0; 4],
+            texcoord: [0.0; 8],
+            fog_depth: 0.0,
         }
     }
-    true
+
+    // The vertex at t of the way to another, each of the seventeen floats mixed alike.
+    #[tactic(auto, unfolding(crate::specs::Vertex::lerp))]
+    pub fn lerp(&self, b: &Vertex, t: f32) -> Vertex
+        ensures { result ≡ lerp t self.now b.now }
+    {
+        Vertex {
+            pos: mix_each(&self.pos, &b.pos, t),
+            color: mix_each(&self.color, &b.color, t),
+            texcoord: mix_each(&self.texcoord, &b.texcoord, t),
+            fog_depth: mix(self.fog_depth, b.fog_depth, t),
+        }
+    }
+
+    // How far inside a plane it is.
+    pub fn clip_distance(&self, plane: Plane) -> f32
+        ensures { result ≡ distance plane self.now }
+    {
+        let p = self.pos;
+        match plane {
+            Plane::Left => p[3] + p[0],
+            Plane::Right => p[3] - p[0],
+            Plane::Bottom => p[3] + p[1],
+            Plane::Top => p[3] - p[1],
+            Plane::Near => p[3] + p[2],
+            Plane::Far => p[3] - p[2],
+            Plane::PositiveW => p[3] - CLIP_W_EPSILON,
+        }
+    }
+
+    pub fn is_inside(&self, plane: Plane) -> bool
+        ensures { result ≡ inside plane self.now }
+    {
+        self.clip_distance(plane) >= 0.0
+    }
+
+    #[tactic(auto, unfolding(crate::specs::Vertex::inside_frustum))]
+    pub fn inside_frustum(&self) -> bool
+        ensures { result ≡ inside_frustum self.now }
+    {
+        Plane::ALL.iter().all(|plane| self.is_inside(*plane))
+    }
 }

@@ -10,7 +10,6 @@ use lib.Ieee.{Float}
 use borrow.Author.Tests.{eqb-true}
 use Rattle.lists.specs.Lists.{all}
 use Rattle.lists.proofs.Choice.{was_true, true_false}
-use Rattle.settings.specs.declared.Scissor.{Scissor}
 use Rattle.scissor.specs.Scissor.{pixel_in}
 use Rattle.isolation.specs.Machine.{Guest, Moment, In, Own, answer, WritesAt, ReadsAt}
 use Rattle.isolation.specs.Acts.{Uses}
@@ -22,6 +21,8 @@ use Rattle.guest_draws.specs.SixCalls.{SixCall}
 use Rattle.worked_guests.specs.Worked.{window}
 use Rattle.worked_guests.proofs.Uses.{uses_of}
 use Rattle.worked_draws.specs.Worked.{M}
+use Rattle.std.specs.Prelude as prelude
+use Rattle.settings.specs.declared.ScissorBox.{ScissorBox}
 
 abbrev pub Then : Type 0
 Then = Moment Shared Place SixCall
@@ -86,7 +87,7 @@ module _ (g : Guest) (s : Shared) (last : Place → Option Guest) where
       name n u = uses_of drawing scissor_of (λ x m. Unit) (λ x t m v. tt) (set_parameter g code value) s n u
 
   -- a clear in its guest's window
-  pub good_clear_depth : (b : Scissor) (v : Float) → ((p : ℕ) → pixel_in 2 1 b p ≡ true → InWindow window 2 1 g p) → Good (made (clear_depth b v))
+  pub good_clear_depth : (b : prelude.Option ScissorBox) (v : Float) → ((p : ℕ) → pixel_in 2 1 b p ≡ true → InWindow window 2 1 g p) → Good (made (clear_depth b v))
   good_clear_depth b v f = record { box = λ r. f; writer = λ n w. absurd (true≢false (sym w)); user = user; own = λ a r. absurd r }
     where
       user : (n : ℕ) → ReadsAt M (made (clear_depth b v)) (texture n) ⊎ WritesAt M (made (clear_depth b v)) (texture n) → (g ≡ n) ⊎ (n ≡ 3)

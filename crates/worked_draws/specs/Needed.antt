@@ -1,7 +1,6 @@
 -- Lists with draws that each break one premise and meet the others, and of which the claim is false.
-use Rattle.std.specs.Prelude.{List, [], ◌∷◌, zero, suc}
+use Rattle.std.specs.Prelude.{List, [], ◌∷◌, zero, suc, Some}
 use Rattle.floats.specs.Num.{zero32, one32}
-use Rattle.settings.specs.declared.Scissor.TheVariants.{Within}
 use Rattle.settings.specs.declared.ScissorBox.{ScissorBox}
 use Rattle.isolation.specs.Machine.{Guest, Turn}
 use Rattle.frames.specs.Windows.{Disjoint, Inside, TexturesApart, BytesApart}
@@ -18,16 +17,16 @@ one_window (suc zero) = column 0 9
 one_window (suc (suc g)) = column 0 0
 
 abbrev pub overdrawn : List (Turn SixCall)
-overdrawn = turn 0 (clear_depth (Within (column 0 9)) one32) ∷ turn 1 (clear_depth (Within (column 0 9)) zero32) ∷ turn 0 (draw (left_half 3 zero32)) ∷ []
+overdrawn = turn 0 (clear_depth (Some (column 0 9)) one32) ∷ turn 1 (clear_depth (Some (column 0 9)) zero32) ∷ turn 0 (draw (left_half 3 zero32)) ∷ []
 
 -- every draw has a box within its guest's window: here guest 1 draws in guest 0's
 abbrev pub out_of_bounds : List (Turn SixCall)
-out_of_bounds = turn 0 (clear_depth (Within (column 0 9)) one32) ∷ turn 1 (draw (left_half 3 zero32)) ∷ []
+out_of_bounds = turn 0 (clear_depth (Some (column 0 9)) one32) ∷ turn 1 (draw (left_half 3 zero32)) ∷ []
 
 -- no guest writes a texture that another reads or writes: here guest 1 empties the level that guest 0 then draws with
 abbrev pub fought : List (Turn SixCall)
 fought =
-    turn 0 (clear_depth (Within (column 0 9)) one32)
+    turn 0 (clear_depth (Some (column 0 9)) one32)
     ∷ turn 0 (define_level 0 0 1 1 0 (5 ∷ 6 ∷ 7 ∷ 8 ∷ []))
     ∷ turn 1 (define_level 0 0 0 0 0 [])
     ∷ turn 0 (draw (left_half 0 zero32))
@@ -36,7 +35,7 @@ fought =
 -- no guest reads a texel byte that another wrote last: here guest 1 defines its own texture over the bytes that guest 0 then draws with
 abbrev pub overwritten : List (Turn SixCall)
 overwritten =
-    turn 0 (clear_depth (Within (column 0 9)) one32)
+    turn 0 (clear_depth (Some (column 0 9)) one32)
     ∷ turn 0 (define_level 0 0 1 1 0 (5 ∷ 6 ∷ 7 ∷ 8 ∷ []))
     ∷ turn 1 (define_level 1 0 1 1 0 (9 ∷ 9 ∷ 9 ∷ 9 ∷ []))
     ∷ turn 0 (draw (left_half 0 zero32))

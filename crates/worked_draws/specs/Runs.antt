@@ -1,10 +1,9 @@
 -- Triangles whose draw is computed from its definition: the worked run of document 01, a fan with a corner that cannot be divided, and a
 -- stored depth below 0.
-use Rattle.std.specs.Prelude.{◌≡◌, Bool, true, false, List, [], ◌∷◌, ℕ, ◌*◌, replicate, get_or, Float}
+use Rattle.std.specs.Prelude.{◌≡◌, Bool, true, false, List, [], ◌∷◌, ℕ, ◌*◌, replicate, get_or, Float, None}
 use Rattle.std.specs.Float.Ieee as Ieee
 use Rattle.std.specs.Float.{nan, binary32}
 use Rattle.floats.specs.Num.{zero32, half32, one32}
-use Rattle.settings.specs.declared.Scissor.TheVariants.{Whole}
 use Rattle.vertices.specs.declared.Vertex.{Vertex}
 use Rattle.frames.specs.State.{drew}
 use Rattle.draw.specs.Draw.{Outcome, draw_args, draw_of}
@@ -15,7 +14,7 @@ abbrev pub cleared_to1 : ℕ → List Float
 cleared_to1 n = replicate n one32
 
 abbrev pub draw_on : ℕ → ℕ → Bool → Vertex → Vertex → Vertex → List Float → Outcome
-draw_on width height tested a b c ds = draw_of [] width height (draw_args (settings_of width height Whole tested) [] 0 a b c) [] (replicate (4 * (width * height)) 0) ds
+draw_on width height tested a b c ds = draw_of [] width height (draw_args (settings_of width height None tested) [] 0 a b c) [] (replicate (4 * (width * height)) 0) ds
 
 -- 01's two triangles on 2 by 2 pixels, which share an edge
 abbrev pub first_half : Bool → List Float → Outcome

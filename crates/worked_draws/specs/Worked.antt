@@ -1,16 +1,13 @@
 -- A worked list of calls by three guests that meets the premises, with textured draws under a depth test and a refused call of each
 -- kind. A frame of 2 by 1 pixels and a store of three texels.
-use Rattle.std.specs.Prelude.{◌≡◌, Bool, true, false, cond, List, [], ◌∷◌, ℕ, eqb, pos, replicate, Float}
+use Rattle.std.specs.Prelude.{◌≡◌, Bool, true, false, cond, List, [], ◌∷◌, ℕ, eqb, pos, replicate, Float, Option, Some, None}
 use Rattle.std.specs.Float.Ieee as Ieee
 use Rattle.std.specs.Float.{nan, binary32}
 use Rattle.consts.specs.Codes.{GL_TEXTURE_MAG_FILTER, GL_NEAREST}
 use Rattle.floats.specs.Num.{zero32, one32}
-use Rattle.settings.specs.declared.Scissor.{Scissor}
-use Rattle.settings.specs.declared.Scissor.TheVariants.{Whole, Within}
 use Rattle.settings.specs.declared.ScissorBox.{ScissorBox}
 use Rattle.settings.specs.declared.CompareFunc.TheVariants as C
 use Rattle.settings.specs.declared.BlendFactor.TheVariants as B
-use Rattle.settings.specs.declared.Cull.TheVariants.{Off}
 use Rattle.settings.specs.declared.FrontFace.TheVariants.{Ccw}
 use Rattle.settings.specs.declared.FogMode.TheVariants.{Exp}
 use Rattle.settings.specs.declared.TexEnvMode.TheVariants.{Replace}
@@ -75,7 +72,7 @@ abbrev pub corner : Float → Float → Float → Vertex
 corner x y z = corner_at x y z one32
 
 -- the default settings, whose comparison is Less, with a viewport from (0, 0), a scissor and the depth test
-abbrev pub settings_of : ℕ → ℕ → Scissor → Bool → PipelineState
+abbrev pub settings_of : ℕ → ℕ → Option ScissorBox → Bool → PipelineState
 settings_of width height scissor tested = record {
   viewport = record { x = pos 0; y = pos 0; width = pos width; height = pos height };
   depth_range = record { near = zero32; far = one32 };
@@ -89,7 +86,7 @@ settings_of width height scissor tested = record {
   blend = false;
   blend_src = B.One;
   blend_dst = B.Zero;
-  cull = Off;
+  cull = None;
   front_face = Ccw;
   color_mask = record { r = true; g = true; b = true; a = true };
   fog = false;
@@ -103,7 +100,7 @@ settings_of width height scissor tested = record {
 
 -- a depth test, Less; the viewport is the target
 abbrev pub settings : ScissorBox → PipelineState
-settings b = settings_of 2 1 (Within b) true
+settings b = settings_of 2 1 (Some b) true
 
 -- one stage, of unit u; each pixel takes its texel's colour
 abbrev pub stage : ℕ → TextureStage
@@ -138,10 +135,10 @@ abbrev pub defines1 : Turn SixCall
 defines1 = turn 1 (define_level 1 0 1 1 4 (1 ∷ 2 ∷ 3 ∷ 4 ∷ []))
 
 abbrev pub clears0 : Turn SixCall
-clears0 = turn 0 (clear_depth (Within (column 0 9)) one32)
+clears0 = turn 0 (clear_depth (Some (column 0 9)) one32)
 
 abbrev pub clears1 : Turn SixCall
-clears1 = turn 1 (clear_depth (Within (column 1 1)) one32)
+clears1 = turn 1 (clear_depth (Some (column 1 1)) one32)
 
 abbrev pub draws0 : Turn SixCall
 draws0 = turn 0 (draw (left_half 0 zero32))
@@ -172,11 +169,11 @@ draws1 = turn 1 (draw (right_half 1 minus_one))
 
 -- refused by 2
 abbrev pub bad_color : Turn SixCall
-bad_color = turn 1 (clear_color (Within (column 9000 1)) (1 ∷ 1 ∷ 1 ∷ 1 ∷ []))
+bad_color = turn 1 (clear_color (Some (column 9000 1)) (1 ∷ 1 ∷ 1 ∷ 1 ∷ []))
 
 -- refused by 4
 abbrev pub bad_depth : Turn SixCall
-bad_depth = turn 0 (clear_depth Whole nan)
+bad_depth = turn 0 (clear_depth None nan)
 
 -- refused by 6, so it may name a texture of guest 0
 abbrev pub bad_stage : Turn SixCall

@@ -1,4 +1,5 @@
 -- Which textures the five kinds of call use, that they read no texel byte, and the columns of a window. Assumes nothing.
+use Rattle.std.specs.Prelude.{Option, Some}
 use mathlib.Core.Path.{◌≡◌, sym}
 use mathlib.Core.Logic.{inl, inr}
 use mathlib.Core.Bool.{Bool, true, false, cond, ◌&&◌, true≢false}
@@ -6,8 +7,6 @@ use Prim.Native.Nat.{ℕ, ◌-◌, ◌%◌, ◌/◌}
 use lib.Dec.{eqb, ltb}
 use borrow.Author.Tests.{eqb-true}
 use Rattle.settings.specs.declared.ScissorBox.{ScissorBox}
-use Rattle.settings.specs.declared.Scissor.{Scissor}
-use Rattle.settings.specs.declared.Scissor.TheVariants.{Within}
 use Rattle.scissor.specs.Scissor.{within, in_box, pixel_in}
 use Rattle.scissor.proofs.Boxes.{split}
 use Rattle.isolation.specs.Machine.{Act}
@@ -22,7 +21,7 @@ named true m n e = eqb-true m n e
 named false m n e = absurd (true≢false (sym e))
 
 -- By: the textures that a draw uses
-module _ {Draw : Type 0} (drawing : Draw → Act Shared Answer Place) (scissor_of : Draw → Scissor) (By : Draw → ℕ → Type 0)
+module _ {Draw : Type 0} (drawing : Draw → Act Shared Answer Place) (scissor_of : Draw → Option ScissorBox) (By : Draw → ℕ → Type 0)
     (own : (d : Draw) (s : Shared) (m : ℕ) → Uses (drawing d) s (texture m) → By d m) where
   -- the textures that a call names
   abbrev pub NamesOf : Call Draw → ℕ → Type 0
@@ -64,7 +63,7 @@ reads_no_byte (patch_level n k x y w h rgba) s a r = r
 reads_no_byte (set_parameter n code value) s a r = r
 
 -- a pixel in a box lies in its columns and in its rows, which count from the bottom
-module _ (width height : ℕ) (b : ScissorBox) (p : ℕ) (e : pixel_in width height (Within b) p ≡ true) where
+module _ (width height : ℕ) (b : ScissorBox) (p : ℕ) (e : pixel_in width height (Some b) p ≡ true) where
   both : (within b.x b.width (p % width) ≡ true) × (within b.y b.height (height - 1 - p / width) ≡ true)
   unfolding in_box
   both = split (within b.x b.width (p % width)) _ (split (ltb (p % width) width && ltb (p / width) height) _ e).1

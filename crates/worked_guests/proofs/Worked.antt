@@ -1,4 +1,5 @@
 -- The premises can be met: the worked list meets them, with refused calls of each kind among it. Assumes nothing.
+use Rattle.std.specs.Prelude.{Some}
 use mathlib.Core.Path.{◌≡◌, refl, sym, ap, ◌∙◌, subst}
 use mathlib.Core.Logic.{◌⊎◌, inl, inr, ◌≢◌}
 use mathlib.Core.Bool.{true, false, ◌&&◌, true≢false}
@@ -11,7 +12,6 @@ use borrow.Author.Tests.{ltb-true, leb-true, lt-ltb}
 use Rattle.isolation.specs.Machine.{Guest, Moment, Machine, answers_of, answer, WritesAt, ReadsAt}
 use Rattle.frames.specs.State.{Place, texture, Answer, done, refused, is_refused}
 use Rattle.frames.specs.Windows.{machine, During, Disjoint, Inside, TexturesApart}
-use Rattle.settings.specs.declared.Scissor.TheVariants.{Within}
 use Rattle.scissor.specs.Scissor.{within, in_box, pixel_in}
 use Rattle.scissor.proofs.Boxes.{split}
 use Rattle.guests.specs.Calls.{Shared}
@@ -60,7 +60,7 @@ abbrev Kept : Moment Shared Place (Call ⊥) → Type 0
 Kept e = is_refused (answer M e.turn.call e.before) ≡ false → (p : ℕ) → InBox no_drawing no_scissor 2 1 e.turn.call p → InWindow window 2 1 e.turn.who p
 
 -- a lower box is within a higher one
-pub taller : (x n m p : ℕ) → n ≤ m → pixel_in 2 1 (Within (column x n)) p ≡ true → pixel_in 2 1 (Within (column x m)) p ≡ true
+pub taller : (x n m p : ℕ) → n ≤ m → pixel_in 2 1 (Some (column x n)) p ≡ true → pixel_in 2 1 (Some (column x m)) p ≡ true
 unfolding in_box
 taller x n m p h e =
     let a = split (ltb (p % 2) 2 && ltb (p / 2) 1) _ e in

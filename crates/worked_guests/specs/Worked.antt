@@ -1,10 +1,9 @@
 -- A worked list of calls by two guests that meets the premises, and lists that each break one of them. A frame of 2 by 1 pixels, a
 -- store of two texels, textures with no level.
-use Rattle.std.specs.Prelude.{List, [], ◌∷◌, ℕ, zero, suc, pos, replicate, Float}
+use Rattle.std.specs.Prelude.{List, [], ◌∷◌, ℕ, zero, suc, pos, replicate, Float, Some, None}
 use Rattle.std.specs.Float.Ieee as Ieee
 use Rattle.std.specs.Float.{nan, binary32}
 use Rattle.consts.specs.Codes.{GL_TEXTURE_MAG_FILTER, GL_NEAREST}
-use Rattle.settings.specs.declared.Scissor.TheVariants.{Whole, Within}
 use Rattle.settings.specs.declared.ScissorBox.{ScissorBox}
 use Rattle.levels.specs.Levels.{new_texture}
 use Rattle.isolation.specs.Machine.{Guest, Turn}
@@ -45,12 +44,12 @@ calls =
     turn 0 (define_level 0 0 1 1 0 (5 ∷ 6 ∷ 7 ∷ 8 ∷ []))
     ∷ turn 1 (define_level 1 0 1 1 4 (1 ∷ 2 ∷ 3 ∷ 4 ∷ []))
     ∷ turn 1 (define_level 2 0 1 1 0 (9 ∷ 9 ∷ 9 ∷ 9 ∷ []))
-    ∷ turn 0 (clear_color (Within (column 0 1)) (10 ∷ 20 ∷ 30 ∷ 40 ∷ []))
+    ∷ turn 0 (clear_color (Some (column 0 1)) (10 ∷ 20 ∷ 30 ∷ 40 ∷ []))
     ∷ turn 0 (patch_level 0 0 0 0 1 1 (8 ∷ 7 ∷ 6 ∷ 5 ∷ []))
-    ∷ turn 1 (clear_depth (Within (column 1 9)) half)
+    ∷ turn 1 (clear_depth (Some (column 1 9)) half)
     ∷ turn 0 (set_parameter 0 GL_TEXTURE_MAG_FILTER GL_NEAREST)
-    ∷ turn 1 (clear_color (Within (column 9000 1)) (1 ∷ 1 ∷ 1 ∷ 1 ∷ []))
-    ∷ turn 0 (clear_depth Whole nan)
+    ∷ turn 1 (clear_color (Some (column 9000 1)) (1 ∷ 1 ∷ 1 ∷ 1 ∷ []))
+    ∷ turn 0 (clear_depth None nan)
     ∷ turn 1 (define_level 0 0 1025 1 0 [])
     ∷ turn 0 (patch_level 3 1 0 0 0 0 [])
     ∷ turn 1 (patch_level 3 1 0 0 0 0 [])
@@ -66,11 +65,11 @@ one_window (suc zero) = column 0 1
 one_window (suc (suc g)) = column 0 0
 
 abbrev pub overdrawn : List (Turn (Call ⊥))
-overdrawn = turn 0 (clear_color (Within (column 0 1)) (1 ∷ 1 ∷ 1 ∷ 1 ∷ [])) ∷ turn 1 (clear_color (Within (column 0 1)) (2 ∷ 2 ∷ 2 ∷ 2 ∷ [])) ∷ []
+overdrawn = turn 0 (clear_color (Some (column 0 1)) (1 ∷ 1 ∷ 1 ∷ 1 ∷ [])) ∷ turn 1 (clear_color (Some (column 0 1)) (2 ∷ 2 ∷ 2 ∷ 2 ∷ [])) ∷ []
 
 -- every clear has a box within its guest's window: here guest 1 clears the whole target
 abbrev pub out_of_bounds : List (Turn (Call ⊥))
-out_of_bounds = turn 0 (clear_color (Within (column 0 1)) (1 ∷ 1 ∷ 1 ∷ 1 ∷ [])) ∷ turn 1 (clear_color Whole (2 ∷ 2 ∷ 2 ∷ 2 ∷ [])) ∷ []
+out_of_bounds = turn 0 (clear_color (Some (column 0 1)) (1 ∷ 1 ∷ 1 ∷ 1 ∷ [])) ∷ turn 1 (clear_color None (2 ∷ 2 ∷ 2 ∷ 2 ∷ [])) ∷ []
 
 -- no guest writes a texture that another reads or writes: here guest 1 empties the level that guest 0 then patches
 abbrev pub fought : List (Turn (Call ⊥))

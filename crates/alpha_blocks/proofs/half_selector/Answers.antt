@@ -8,9 +8,9 @@ use Rattle.alpha_blocks.proofs.half_selector.Goals as goal
 pub returns-then-i-lt8 : goal.returns-then-i-lt8
 returns-then-i-lt8 c =
     let a = c.args in
-    c.selector3.ensures ∙ sym (lower_part 3 8 a.high (search rules) a.i (7 - a.i) (omega arith))
+    c.selector.ensures.0 ∙ sym (lower_part 3 8 a.high (search rules) a.i (7 - a.i) (omega arith))
 
 pub returns : goal.returns
 returns c =
     let a = c.args in
-    c.selector3-2.ensures ∙ sym (higher_part 3 8 a.high (search rules) a.i (a.i - 8) (omega arith))
+    c.selector-2.ensures.0 ∙ sym (higher_part 3 8 a.high (search rules) a.i (a.i - 8) (omega arith))

@@ -1,13 +1,22 @@
-use mathlib.Core.Path.{◌∙◌}
+use mathlib.Core.Path.{◌≡◌, ◌∙◌}
+use native.Mathlib.Omega.{arith}
+use Rattle.lists.proofs.Turns.{iter_none, iter_more}
 use Rattle.blocks.specs.Blocks.{block_bytes, block_texel}
+use Rattle.block_images.specs.Walk.{blocks_over, put_rows}
 use Rattle.block_images.proofs.Walks.{walk_image, block_four}
 use Rattle.block_images.proofs.decode_blocks.Goals as goal
 
-pub decode_rows-requires : goal.decode_rows-requires
-decode_rows-requires c = c.requires
+pub loop-by-init : goal.loop-by-init
+loop-by-init c = iter_none _ _
+
+pub loop-by-preserved : goal.loop-by-preserved
+loop-by-preserved c = rw (← iter_more, ← c.loop-by.invariant) c.decode_row.ensures
 
 pub returns : goal.returns
+unfolding put_rows
 returns c =
     let a = c.args in
-    c.decode_rows.ensures ∙ walk_image (block_texel a.b) (block_four a.b) (block_bytes a.b) a.w a.h a.s.now a.out.now
-    c.requires.1.size
+    let e : c.loop-by.by ≡ blocks_over a.sides.h = omega arith in
+    c.loop-by.invariant
+    ∙ rw e
+    (walk_image (block_texel a.b) (block_four a.b) (block_bytes a.b) a.sides.w a.sides.h a.s.now a.out.now c.requires.1)

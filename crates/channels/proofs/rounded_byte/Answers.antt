@@ -1,28 +1,25 @@
-use mathlib.Core.Path.{refl, sym, subst}
+use Prim.Native.Nat.{ℕ, ◌+◌, ◌/◌}
+use mathlib.Core.Path.{refl, sym, ap, subst, ◌∙◌}
 use lib.Dec.{T}
 use lib.Ieee.{of_bits, lt}
 use native.Mathlib.Omega.{arith}
-use Rattle.lists.proofs.Choice.{yes, no}
-use Rattle.channels.proofs.Rounded.{doubled_number, doubled_byte, small}
+use Rattle.channels.proofs.Rounded.{doubled, small}
 use Rattle.channels.proofs.rounded_byte.Goals as goal
-use Rattle.channels.proofs.rounded_byte.Goals.{then-r-t, else-r-t}
 
 pub held-t-requires : goal.held-t-requires
 unfolding of_bits lt
 held-t-requires c = refl
 
-pub float_to_bits-result : goal.float_to_bits-result
+pub whole_part-requires-clause-part : goal.whole_part-requires-clause-part
 unfolding of_bits
-float_to_bits-result c = doubled_number _ _ (subst T (sym c.well_formed.0.1) tt) c.held-t.ensures
-
-pub overflow_add-result : goal.overflow_add-result
-unfolding of_bits
-overflow_add-result c = elim c.if-r-t.branch [ then-r-t w ↦ omega arith | else-r-t w ↦ omega arith ]
-
-pub overflow_cast-result : goal.overflow_cast-result
-unfolding of_bits
-overflow_cast-result c = omega (arith, doubled_byte _ c.args.x c.if-r-t.up (subst T (sym c.well_formed.0.1) tt) c.held-t.ensures (elim c.if-r-t.branch [ then-r-t w ↦ yes _ w.if-r-t.true w.up-is | else-r-t w ↦ no _ w.if-r-t.false w.up-is ]), small c.args.x)
+whole_part-requires-clause-part c = (doubled _ c.args.x (subst T (sym c.well_formed.0.1) tt) c.held-t.ensures).0
 
 pub returns : goal.returns
 unfolding of_bits
-returns c = doubled_byte _ c.args.x c.if-r-t.up (subst T (sym c.well_formed.0.1) tt) c.held-t.ensures (elim c.if-r-t.branch [ then-r-t w ↦ yes _ w.if-r-t.true w.up-is | else-r-t w ↦ no _ w.if-r-t.false w.up-is ])
+returns c = ap (λ (k : ℕ). (k + 1) / 2) c.whole_part.ensures.value ∙ (doubled _ c.args.x (subst T (sym c.well_formed.0.1) tt) c.held-t.ensures).1
+
+pub overflow_cast-result : goal.overflow_cast-result
+unfolding of_bits
+overflow_cast-result c =
+    let e = ap (λ (k : ℕ). (k + 1) / 2) c.whole_part.ensures.value ∙ (doubled _ c.args.x (subst T (sym c.well_formed.0.1) tt) c.held-t.ensures).1 in
+    record { fits = omega (arith, e, small c.args.x) }

@@ -1,32 +1,48 @@
-use mathlib.Core.Path.{sym, ap, ◌∙◌}
-use Rattle.compressed.specs.Compressed.{is_unknown, compressed_of}
-use Rattle.compressed.proofs.Checks.{size_9, size_14, size_0, size_refused, size_given}
-use Rattle.texels.proofs.Plains.{wide_above, high_above, none_above}
+use mathlib.Core.Path.{◌≡◌, refl, ◌∙◌}
+use native.Mathlib.Omega.{arith}
+use Rattle.std.specs.Prelude.{Some, None}
+use Rattle.std.proofs.lemmas.Result.{err_from_is_err_and}
 use Rattle.answers.specs.declared.Refusal.TheVariants.{Side, Format}
+use Rattle.texels.proofs.Plains.{passed_on}
+use Rattle.compressed.specs.Compressed.{compressed_of}
+use Rattle.compressed.proofs.Checks.{size_9, size_14, size_0, size_refused, size_given}
 use Rattle.compressed.proofs.compressed_image_size.Goals as goal
 
-pub returns-then-width-gt1024 : goal.returns-then-width-gt1024
-returns-then-width-gt1024 c =
+pub returns-in_err-sides-clause-number : goal.returns-in_err-sides-clause-number
+returns-in_err-sides-clause-number c =
     let a = c.args in
-    let n = size_9 (compressed_of a.format) a.width a.height (wide_above a.width a.height c.if-width-gt1024.true) in
-    (n, size_refused (compressed_of a.format) a.width a.height Side n)
+    let e = c.in_err-sides.ensures in
+    passed_on _ _ c.from_residual.ensures.1 ∙ rw e.1 (size_9 (compressed_of a.format) a.width a.height e.0)
 
-pub returns-then-height-gt1024 : goal.returns-then-height-gt1024
-returns-then-height-gt1024 c =
+pub returns-in_err-sides-clause-bytes : goal.returns-in_err-sides-clause-bytes
+returns-in_err-sides-clause-bytes c =
     let a = c.args in
-    let n = size_9 (compressed_of a.format) a.width a.height (high_above a.width a.height c.if-width-gt1024.false c.if-height-gt1024.true) in
-    (n, size_refused (compressed_of a.format) a.width a.height Side n)
+    let p = err_from_is_err_and c.from_residual.result c.from_residual.ensures.1 in
+    rw p.1 (size_refused (compressed_of a.format) a.width a.height Side (size_9 (compressed_of a.format) a.width a.height c.in_err-sides.ensures.0))
 
-pub returns-then-is_unknown : goal.returns-then-is_unknown
-returns-then-is_unknown c =
+pub returns-in_err-f-clause-number : goal.returns-in_err-f-clause-number
+returns-in_err-f-clause-number c =
     let a = c.args in
-    let u = ap is_unknown (sym c.compressed_of-f.ensures) ∙ sym c.is_unknown.ensures ∙ c.if-is_unknown.true in
-    let n = size_14 (compressed_of a.format) a.width a.height (none_above a.width a.height c.if-width-gt1024.false c.if-height-gt1024.false) u in
-    (n, size_refused (compressed_of a.format) a.width a.height Format n)
+    let n : compressed_of a.format ≡ None = grind arith in
+    let e : c.in_err-f.field-0.0 ≡ Format = grind arith in
+    passed_on _ _ c.from_residual-in_err-f.ensures.1 ∙ rw (e, n) (size_14 None a.width a.height c.in_ok-sides.ensures.0 refl)
 
-pub returns : goal.returns
-returns c =
+pub returns-in_err-f-clause-bytes : goal.returns-in_err-f-clause-bytes
+returns-in_err-f-clause-bytes c =
     let a = c.args in
-    let u = ap is_unknown (sym c.compressed_of-f.ensures) ∙ sym c.is_unknown.ensures ∙ c.if-is_unknown.false in
-    let n = size_0 (compressed_of a.format) a.width a.height (none_above a.width a.height c.if-width-gt1024.false c.if-height-gt1024.false) u in
-    (n, c.size_of.ensures ∙ rw c.compressed_of-f.ensures (size_given (compressed_of a.format) a.width a.height n))
+    let n : compressed_of a.format ≡ None = grind arith in
+    let p = err_from_is_err_and c.from_residual-in_err-f.result c.from_residual-in_err-f.ensures.1 in
+    rw (p.1, n) (size_refused None a.width a.height Format (size_14 None a.width a.height c.in_ok-sides.ensures.0 refl))
+
+pub returns-clause-number : goal.returns-clause-number
+returns-clause-number c =
+    let a = c.args in
+    let n : compressed_of a.format ≡ Some c.in_ok-f.f = grind arith in
+    rw n (size_0 (Some c.in_ok-f.f) a.width a.height c.in_ok-sides.ensures.0 refl)
+
+pub returns-clause-bytes : goal.returns-clause-bytes
+returns-clause-bytes c =
+    let a = c.args in
+    let s = c.in_ok-sides.ensures in
+    let n : compressed_of a.format ≡ Some c.in_ok-f.f = grind arith in
+    c.size.ensures ∙ rw (s.1, s.2, n) (size_given (Some c.in_ok-f.f) a.width a.height (size_0 (Some c.in_ok-f.f) a.width a.height s.0 refl))

@@ -17,4 +17,4 @@ returns-then-c-size c = no _ c.if-c.false (yes _ c.if-c-size.true refl)
 
 pub returns : goal.returns
 unfolding edge_coord
-returns c = no _ c.if-c.false (no _ c.if-c-size.false c.saturating_u32.ensures)
+returns c = no _ c.if-c.false (no _ c.if-c-size.false c.saturating_f32_to_u32.ensures)

@@ -1,13 +1,14 @@
+use lib.Ieee.{of_bits}
 use mathlib.Core.Path.{refl, sym}
 use native.Mathlib.Omega.{arith}
-use Rattle.coords.proofs.Quick.{floored_above, floored_below, small_float, minus_above}
+use Rattle.coords.proofs.Quick.{few_part, floored_above, floored_below, small_float, minus_above, held_whole, held_below}
 use Rattle.coords.proofs.floored.Goals as goal
 
 pub int_to_float-result : goal.int_to_float-result
-int_to_float-result c = small_float _ (omega (arith, c.whole_part-n.ensures.1))
+int_to_float-result c = small_float _ (omega (arith, c.whole_part-n.ensures.few))
 
 pub returns-then-x-2 : goal.returns-then-x-2
-returns-then-x-2 c = floored_above _ _ (record { above = c.if-x.true; below = c.if-x-2.true }) c.whole_part-n.ensures.0
+returns-then-x-2 c = held_whole _ _ _ (record { sfits = c.from.type_inv }) _ c.from.ensures (floored_above _ _ (record { above = c.if-x.true; below = c.if-x-2.true }) c.whole_part-n.ensures.value)
 
 pub below_part-n-requires : goal.below_part-n-requires
 below_part-n-requires c = record { above = minus_above _ c.if-x-3.true; below = c.if-y.true }
@@ -16,7 +17,11 @@ pub int_to_float-result-then-y : goal.int_to_float-result-then-y
 int_to_float-result-then-y c = small_float _ (omega (arith, c.below_part-n.ensures.0))
 
 pub returns-then-y : goal.returns-then-y
-returns-then-y c = floored_below _ _ _ refl c.below_part-n.ensures.1
+returns-then-y c = held_below _ _ _ (record { sfits = c.from-then-y.type_inv }) _ c.below_part-n.ensures.0 c.from-then-y.ensures (floored_below _ _ _ refl c.below_part-n.ensures.1)
 
 pub returns : goal.returns
-returns c = record { whole = rw (sym c.floor-low.ensures) c.saturating_i64.ensures; low = c.floor-low.ensures }
+returns c = held_whole _ _ _ (record { sfits = c.saturating_f32_to_i64.type_inv }) c.saturating_f32_to_i64.result refl (record { whole = rw (sym c.floor-low.ensures) c.saturating_f32_to_i64.ensures; low = c.floor-low.ensures })
+
+pub whole_part-n-requires-clause-part : goal.whole_part-n-requires-clause-part
+unfolding of_bits
+whole_part-n-requires-clause-part c = few_part _ (record { above = c.if-x.true; below = c.if-x-2.true })

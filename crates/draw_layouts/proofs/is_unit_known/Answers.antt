@@ -1,7 +1,4 @@
-use mathlib.Core.Path.{◌≡◌, ap, ◌∙◌}
-use Prim.Native.Nat.{ℕ, ◌+◌, ◌-◌}
-use native.Mathlib.Omega.{arith}
-use lib.ListN.{take, drop}
+use Rattle.std.proofs.Common.{◌≡◌, ap, ◌∙◌, ℕ, ◌+◌, ◌-◌, take, drop, is_some, arith}
 use Rattle.layouts.specs.Records.{read_of}
 use Rattle.draw_layouts.specs.Units.{read_unit}
 use Rattle.draw_layouts.proofs.is_unit_known.Goals as goal
@@ -11,4 +8,4 @@ unfolding read_unit
 returns c =
     let a = c.args in
     let e : a.at + 244 - a.at ≡ 244 = omega arith in
-    c.is_known.ensures ∙ ap (λ (n : ℕ). (read_of (take n (drop a.at a.b.now))).known) e
+    c.is_known.ensures ∙ ap (λ (n : ℕ). is_some (read_of (take n (drop a.at a.b.now)))) e

@@ -1,7 +1,4 @@
-use mathlib.Core.Path.{◌≡◌, ap, ◌∙◌}
-use Prim.Native.Nat.{ℕ, ◌+◌, ◌-◌}
-use native.Mathlib.Omega.{arith}
-use lib.ListN.{take, drop}
+use Rattle.std.proofs.Common.{◌≡◌, ap, ◌∙◌, ℕ, ◌+◌, ◌-◌, take, drop, arith}
 use Rattle.layouts.specs.Records.{read_of}
 use Rattle.draw_layouts.specs.Units.{read_unit}
 use Rattle.draw_layouts.proofs.unit_at.Goals as goal

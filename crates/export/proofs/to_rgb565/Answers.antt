@@ -1,5 +1,4 @@
 use mathlib.Core.Path.{refl}
-use native.Mathlib.Nat.{mul-le-mul}
 use native.Mathlib.Omega.{arith}
 use Rattle.answers.specs.declared.Refusal.TheVariants.{Target}
 use mathlib.Core.Path.{◌≡◌}
@@ -8,7 +7,7 @@ use Rattle.answers.specs.Numbers.{refusal_number}
 use Rattle.answers.proofs.Answered.{refused_test, done_test}
 use Rattle.lists.proofs.Choice.{yes, no, stay, leave}
 use Rattle.export.specs.Export.{export_check}
-use Rattle.export.specs.Export.{rgb565_of}
+use Rattle.export.specs.Export.{rgb565_of, exported_of}
 use Rattle.scissor.proofs.Outcome.{target_is, passed}
 use Rattle.export.proofs.to_rgb565.Goals as goal
 
@@ -18,16 +17,13 @@ returns-then-not-target_fits c =
     let e : refusal_number Target ≡ export_check c.args.width c.args.height (length c.args.colors.now) c.args.depths_len = leave _ c.target_fits.ensures c.if-not-target_fits.true-raw refl in
     record { answer = e; out_after = no _ (refused_test Target _ e) refl }
 
-pub overflow_mul-width : goal.overflow_mul-width
-overflow_mul-width c =
+pub export_pixels-requires : goal.export_pixels-requires
+export_pixels-requires c =
     let t = target_is _ _ _ _ (passed c.target_fits.ensures c.if-not-target_fits.false-raw) in
-    record { fits = omega (arith, mul-le-mul t.0 t.1) }
-
-pub export_fitting-requires : goal.export_fitting-requires
-export_fitting-requires c = omega (arith, target_is _ _ _ _ (passed c.target_fits.ensures c.if-not-target_fits.false-raw))
+    (omega (arith, t, c.min.ensures), omega (arith, c.min.ensures))
 
 pub returns : goal.returns
-unfolding export_check rgb565_of
+unfolding export_check rgb565_of exported_of
 returns c =
     let e : 0 ≡ export_check c.args.width c.args.height (length c.args.colors.now) c.args.depths_len = stay _ c.target_fits.ensures c.if-not-target_fits.false-raw refl in
-    record { answer = e; out_after = yes _ (done_test _ e) c.export_fitting.ensures }
+    record { answer = e; out_after = yes _ (done_test _ e) (rw c.min.ensures at c.export_pixels.ensures) }

@@ -1,16 +1,6 @@
-use Rattle.std.proofs.Common.{T, sym, subst}
-use lib.Ieee.{of_bits}
-use Rattle.floats.proofs.Signs.{abs_below, abs_zero, abs_above}
+use Rattle.std.proofs.Common.{◌∙◌}
+use Rattle.floats.proofs.Signs.{abs_is}
 use Rattle.floats.proofs.abs.Goals as goal
 
-pub returns-then-x : goal.returns-then-x
-unfolding of_bits
-returns-then-x c = abs_below _ c.if-x.true
-
-pub returns-then-x-2 : goal.returns-then-x-2
-unfolding of_bits
-returns-then-x-2 c = abs_zero _ (subst T (sym c.well_formed.0.1) tt) c.if-x-2.true
-
 pub returns : goal.returns
-unfolding of_bits
-returns c = abs_above _ c.if-x.false c.if-x-2.false
+returns c = c.abs.ensures.value ∙ abs_is _

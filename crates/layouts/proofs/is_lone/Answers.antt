@@ -1,19 +1,15 @@
-use Prim.Native.Nat.{◌-◌}
-use mathlib.Core.Path.{sym, ◌∙◌}
-use mathlib.Core.Bool.{false}
-use native.Mathlib.Omega.{arith}
-use borrow.Author.Count.{below_more}
+use Rattle.std.proofs.Common.{sym, ◌∙◌, arith, below_more}
 use Rattle.lists.proofs.Choice.{true_false}
 use Rattle.layouts.proofs.is_lone.Goals as goal
 
 pub loop-i-init : goal.loop-i-init
-loop-i-init c = (omega arith, omega arith, λ k h n. absurd (omega arith))
+loop-i-init c = λ k h n. absurd (omega arith)
 
 pub returns-then-word_at-ne0 : goal.returns-then-word_at-ne0
 returns-then-word_at-ne0 c = λ e. absurd (true_false (sym e))
 
 pub loop-i-preserved : goal.loop-i-preserved
-loop-i-preserved c = (omega arith, omega arith, below_more _ _ c.loop-i.invariant.2 (λ n. sym c.word_at.ensures ∙ c.if-word_at-ne0.false))
+loop-i-preserved c = below_more _ _ c.loop-i.invariant (λ n. sym c.word_at.ensures ∙ c.if-word_at-ne0.false)
 
 pub returns : goal.returns
-returns c = λ e k h n. c.loop-i.invariant.2 k (omega arith) h
+returns c = λ e k h n. c.loop-i.invariant k (omega arith) h

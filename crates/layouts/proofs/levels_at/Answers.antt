@@ -1,19 +1,16 @@
-use borrow.Author.Rules.{rules}
-use mathlib.Core.Path.{◌≡◌, ◌∙◌}
-use mathlib.Core.List.{append-nil}
-use Prim.Native.Nat.{◌-◌}
-use native.Mathlib.Omega.{arith}
-use Rattle.lists.proofs.Tables.{tab_none, tab_more}
+use Rattle.std.proofs.Common.{◌≡◌, ◌∙◌, replicate, arith}
+use Rattle.lists.proofs.Tables.{tab_none, tab_more, tab_all}
+use Rattle.levels.specs.Levels.{absent}
 use Rattle.layouts.specs.Records.{read_level}
 use Rattle.layouts.proofs.levels_at.Goals as goal
 
 pub loop-i-init : goal.loop-i-init
-loop-i-init c = (search rules, tab_none _ _)
+loop-i-init c = tab_none _ _
 
 pub loop-i-preserved : goal.loop-i-preserved
-loop-i-preserved c = (search rules, rw (c.loop-i.invariant.1, c.level_at.ensures) (tab_more (read_level c.args.b.now) c.loop-i.i _ (search rules)))
+loop-i-preserved c = rw (c.level_at.ensures, c.loop-i.invariant) (tab_more (read_level c.args.b.now) c.loop-i.i _ (omega arith))
 
 pub returns : goal.returns
 returns c =
     let e : c.loop-i.i ≡ 11 = omega arith in
-    c.loop-i.invariant.1 ∙ rw e (append-nil _)
+    c.loop-i.invariant ∙ rw e (tab_all (read_level c.args.b.now) 11 (replicate 11 absent) (omega arith))

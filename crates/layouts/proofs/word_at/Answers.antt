@@ -1,6 +1,7 @@
+use Rattle.std.proofs.Common.{◌∙◌, arith}
 use Rattle.layouts.specs.Words.{word}
 use Rattle.layouts.proofs.word_at.Goals as goal
 
 pub returns : goal.returns
 unfolding word
-returns c = rw (c.wide.ensures.0, c.wide-2.ensures.0, c.wide-3.ensures.0, c.wide-4.ensures.0)
+returns c = c.from_le_bytes.ensures ∙ omega arith

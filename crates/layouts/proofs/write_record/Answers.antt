@@ -1,4 +1,4 @@
-use mathlib.Core.Path.{◌∙◌}
+use Rattle.std.proofs.Common.{◌∙◌}
 use Rattle.lists.specs.Lists.{flat}
 use Rattle.layouts.specs.Records.{level_bytes_at, rest_bytes, record_bytes}
 use Rattle.layouts.proofs.RoundTrip.{length_rest, levels_length}
@@ -10,5 +10,5 @@ unfolding record_bytes
 returns c =
     let t = c.args.texture in
     let r = length_rest t in
-    c.copy_in.ensures ∙ rw (c.rest_bytes-rest.ensures, c.put_levels.ensures)
+    c.copy_in.ensures ∙ rw (c.rest_bytes.ensures, c.put_levels.ensures)
     (filled (flat 11 (level_bytes_at t.levels)) c.args.b.now (rest_bytes t) 220 (levels_length t) (c.requires ∙ rw r))

@@ -8,7 +8,7 @@ use Rattle.mipmaps.proofs.mipmapped.Goals as goal
 
 pub cut_steps-requires : goal.cut_steps-requires
 unfolding of_bits
-cut_steps-requires c = record { thresholds = c.requires.thresholds; above_one = subst T (sym c.if-q.true) tt; top_in = c.requires.top_in }
+cut_steps-requires c = record { above_one = subst T (sym c.if-q.true) tt; top_in = c.requires.top_in }
 
 pub minified_levels-requires : goal.minified_levels-requires
 minified_levels-requires c = omega (arith, c.cut_steps.ensures, cut_le c.args.q c.args.top, c.requires.top_in)

@@ -22,4 +22,4 @@ pub overflow_add-result : goal.overflow_add-result
 overflow_add-result c = omega (arith, c.requires.bounds.3)
 
 pub returns : goal.returns
-returns c = rw (c.write_color.ensures, c.write_depth.ensures) (kept [] (drawing c.args.state [] 0 []) c.args.t c.args.width c.args.py c.args.px _ _ _ _ _ (was_so (c.is_covered.ensures ∙ rw c.weights_at-w.ensures) c.if-not-is_covered.false-raw) (sym (c.fragment_at.ensures ∙ rw c.weights_at-w.ensures) ∙ c.in-Kept.is))
+returns c = rw (c.write_color.ensures, c.write_depth.ensures) (kept [] (drawing c.args.state [] 0 []) c.args.t c.args.width c.args.py c.args.px _ _ _ _ _ (was_so (c.is_covered.ensures ∙ rw c.weights_at-w.ensures) c.if-not-is_covered.false-raw) (sym (c.fragment_at.ensures ∙ rw c.weights_at-w.ensures) ∙ c.in-Some.is))

@@ -1,14 +1,13 @@
 use mathlib.Core.Path.{sym, ◌∙◌}
 use native.Mathlib.Omega.{arith}
-use Rattle.pixels.specs.Way.{drawing}
 use Rattle.raster.proofs.Fans.{whole_drawn, clipped_drawn}
 use Rattle.raster.proofs.draw_left.Goals as goal
 
 pub raster_clipped-requires : goal.raster_clipped-requires
-raster_clipped-requires c = record { thresholds = c.requires.thresholds; stages_fit = c.requires.stages_fit; bounds = (omega (arith, c.requires), omega (arith, c.requires), omega (arith, c.requires), omega arith); lengths = c.requires.lengths }
+raster_clipped-requires g c = record { bounds = omega arith; lengths = c.requires }
 
 pub returns-then-all_inside : goal.returns-then-all_inside
-returns-then-all_inside c = c.raster_clipped.ensures.drawn ∙ whole_drawn _ (drawing c.args.state c.args.stages c.args.count c.args.textures) c.args.view c.args.within c.args.width c.args.a c.args.b c.args.c _ (sym c.all_inside.ensures ∙ c.if-all_inside.true)
+returns-then-all_inside g c = c.raster_clipped.ensures.drawn ∙ whole_drawn _ (g.D.Paint.drawing c.args.paint.now) c.args.view c.args.within.pixels c.args.within.width c.args.a c.args.b c.args.c _ (sym c.all_inside.ensures ∙ c.if-all_inside.true)
 
 pub returns : goal.returns
-returns c = c.draw_fan.ensures ∙ clipped_drawn _ (drawing c.args.state c.args.stages c.args.count c.args.textures) c.args.view c.args.within c.args.width c.args.a c.args.b c.args.c _ (sym c.all_inside.ensures ∙ c.if-all_inside.false)
+returns g c = c.draw_fan.ensures ∙ clipped_drawn _ (g.D.Paint.drawing c.args.paint.now) c.args.view c.args.within.pixels c.args.within.width c.args.a c.args.b c.args.c _ (sym c.all_inside.ensures ∙ c.if-all_inside.false)

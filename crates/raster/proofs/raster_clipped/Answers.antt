@@ -1,17 +1,21 @@
 use mathlib.Core.Path.{sym, ◌∙◌}
 use native.Mathlib.Nat.{mul-le-mul_right}
 use native.Mathlib.Omega.{arith}
-use Rattle.pixels.specs.Way.{drawing}
 use Rattle.raster.proofs.Setups.{setup_within, nothing_drawn, filled}
 use Rattle.raster.proofs.raster_clipped.Goals as goal
 
 pub returns-in_default : goal.returns-in_default
-returns-in_default c = record { drawn = nothing_drawn _ (drawing c.args.state c.args.stages c.args.count c.args.textures) c.args.view c.args.within c.args.width c.args.a c.args.b c.args.c _ (sym c.setup_triangle.ensures ∙ c.in_default.is); count = omega arith }
+returns-in_default g c = record { drawn = nothing_drawn _ (g.D.Paint.drawing c.args.paint.now) c.args.view c.args.within.pixels c.args.within.width c.args.a c.args.b c.args.c _ (sym (rw c.state-state.ensures at c.setup_triangle.ensures) ∙ c.in_default.is); count = omega arith }
 
-pub fill-requires : goal.fill-requires
-fill-requires c =
-    let w = setup_within _ _ _ _ c.args.within _ _ _ (sym c.setup_triangle.ensures ∙ c.in-Draws.is) in
-    record { thresholds = c.requires.thresholds; stages_fit = c.requires.stages_fit; bounds = (omega (arith, c.requires, w.x_to), omega (arith, c.requires, w.y_to), omega (arith, c.requires), omega (arith, c.requires)); lengths = (omega (arith, c.requires, mul-le-mul_right c.args.width w.y_to), omega (arith, c.requires)) }
+pub invariant_of-region : goal.invariant_of-region
+invariant_of-region g c =
+    let w = setup_within _ _ _ _ c.args.within.pixels _ _ _ (sym (rw c.state-state.ensures at c.setup_triangle.ensures) ∙ c.in-Some.is) in
+    record { inside = (omega (arith, c.args.within.inside, w.x_to), omega (arith, c.args.within.inside, w.y_to), omega (arith, c.args.within.inside)) }
+
+pub fill_triangle-requires : goal.fill_triangle-requires
+fill_triangle-requires g c =
+    let w = setup_within _ _ _ _ c.args.within.pixels _ _ _ (sym (rw c.state-state.ensures at c.setup_triangle.ensures) ∙ c.in-Some.is) in
+    record { bounds = c.requires.bounds; lengths = (omega (arith, c.requires.lengths, mul-le-mul_right c.args.within.width w.y_to), omega (arith, c.requires.lengths)) }
 
 pub returns : goal.returns
-returns c = record { drawn = c.fill.ensures.drawn ∙ rw c.primitive-t.ensures (filled _ (drawing c.args.state c.args.stages c.args.count c.args.textures) c.args.view c.args.within c.args.width c.args.a c.args.b c.args.c _ (sym c.setup_triangle.ensures ∙ c.in-Draws.is)); count = c.fill.ensures.count }
+returns g c = record { drawn = c.fill_triangle.ensures.drawn ∙ rw c.primitive-t.ensures (filled _ (g.D.Paint.drawing c.args.paint.now) c.args.view c.args.within.pixels c.args.within.width c.args.a c.args.b c.args.c _ (sym (rw c.state-state.ensures at c.setup_triangle.ensures) ∙ c.in-Some.is)); count = c.fill_triangle.ensures.count }

@@ -7,6 +7,6 @@ pub returns-then-b : goal.returns-then-b
 unfolding same_zero_of
 returns-then-b c = yes _ c.if-b.true refl
 
-pub returns : goal.returns
+pub returns-else-b : goal.returns-else-b
 unfolding same_zero_of
-returns c = no _ c.if-b.false refl
+returns-else-b c = no _ c.if-b.false c.if-b.false

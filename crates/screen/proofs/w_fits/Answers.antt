@@ -3,10 +3,10 @@ use Rattle.lists.proofs.Choice.{yes, no}
 use Rattle.screen.specs.Screen.{w_fits}
 use Rattle.screen.proofs.w_fits.Goals as goal
 
-pub returns-then-abs : goal.returns-then-abs
+pub returns-then-not-abs : goal.returns-then-not-abs
 unfolding w_fits
-returns-then-abs c = yes _ (rw c.abs.ensures at c.if-abs.true) refl
+returns-then-not-abs c = no _ (rw c.abs.ensures at c.if-not-abs.true) c.is_finite.ensures
 
-pub returns : goal.returns
+pub returns-else-not-abs : goal.returns-else-not-abs
 unfolding w_fits
-returns c = no _ (rw c.abs.ensures at c.if-abs.false) c.is_finite.ensures
+returns-else-not-abs c = rw c.if-not-abs.false (yes _ (rw c.abs.ensures at c.if-not-abs.false) refl)

@@ -1,44 +1,51 @@
-use Rattle.answers.specs.declared.Refusal.TheVariants.{Bytes, Output}
-use Rattle.texels.specs.declared.Format.TheVariants.{Known}
-use native.Mathlib.Nat.{mul-le-mul}
-use Rattle.texels.proofs.Plains.{none_above, plain_11, plain_15, plain_0, plain_unchanged, plain_drawn, few_bytes}
-use lib.ListN.{length}
-use native.Mathlib.Omega.{arith}
 use mathlib.Core.Path.{◌∙◌}
+use lib.ListN.{length}
+use Rattle.std.specs.Prelude.{Some}
+use Rattle.answers.specs.declared.Refusal.TheVariants.{Bytes, Output}
+use Rattle.texels.proofs.Plains.{none_above, plain_11, plain_15, plain_0, plain_unchanged, plain_drawn}
 use Rattle.texels.proofs.decode_known.Goals as goal
 
-pub overflow_mul-count : goal.overflow_mul-count
-overflow_mul-count c = omega (arith, mul-le-mul c.requires.1 c.requires.0)
-
-pub overflow_mul-count-2 : goal.overflow_mul-count-2
-overflow_mul-count-2 c =
-    rw c.texel_bytes.ensures (omega (arith, mul-le-mul (mul-le-mul c.requires.1 c.requires.0) (few_bytes c.args.t)))
-
-pub returns-then-s-count : goal.returns-then-s-count
-returns-then-s-count c =
+pub returns-then-s-count-clause-number : goal.returns-then-s-count-clause-number
+returns-then-s-count-clause-number c =
     let a = c.args in
-    let n = plain_11 a.width a.height (length a.s.now) (length a.out.now) a.t
-    (none_above a.width a.height c.requires.0 c.requires.1) (rw (← c.texel_bytes.ensures) c.if-s-count.true) in
-    (n, plain_unchanged (Known a.t) a.width a.height a.s.now a.out.now Bytes n)
+    plain_11 a.sides.w a.sides.h (length a.s.now) (length a.out.now) a.t (none_above a.sides.w a.sides.h a.sides.wide a.sides.high)
+    (rw (← c.bytes.ensures, ← c.texels-count.ensures.value) c.if-s-count.true)
 
-pub overflow_mul-count-3 : goal.overflow_mul-count-3
-overflow_mul-count-3 c =
-    omega (arith, mul-le-mul c.requires.1 c.requires.0)
-
-pub returns-then-out-count : goal.returns-then-out-count
-returns-then-out-count c =
+pub returns-then-s-count-clause-left : goal.returns-then-s-count-clause-left
+returns-then-s-count-clause-left c =
     let a = c.args in
-    let n = plain_15 a.width a.height (length a.s.now) (length a.out.now) a.t
-    (none_above a.width a.height c.requires.0 c.requires.1) (rw (← c.texel_bytes.ensures) c.if-s-count.false) c.if-out-count.true in
-    (n, plain_unchanged (Known a.t) a.width a.height a.s.now a.out.now Output n)
+    plain_unchanged (Some a.t) a.sides.w a.sides.h a.s.now a.out.now Bytes
+    (plain_11 a.sides.w a.sides.h (length a.s.now) (length a.out.now) a.t (none_above a.sides.w a.sides.h a.sides.wide a.sides.high)
+    (rw (← c.bytes.ensures, ← c.texels-count.ensures.value) c.if-s-count.true))
 
-pub decode_texels-requires : goal.decode_texels-requires
-decode_texels-requires c =
-    (rw (← c.texel_bytes.ensures) c.if-s-count.false, c.if-out-count.false)
-
-pub returns : goal.returns
-returns c =
+pub returns-then-out-count-clause-number : goal.returns-then-out-count-clause-number
+returns-then-out-count-clause-number c =
     let a = c.args in
-    let n = plain_0 a.width a.height (length a.s.now) (length a.out.now) a.t
-    (none_above a.width a.height c.requires.0 c.requires.1) (rw (← c.texel_bytes.ensures) c.if-s-count.false) c.if-out-count.false in
-    (n, c.decode_texels.ensures ∙ plain_drawn a.t a.width a.height a.s.now a.out.now n)
+    plain_15 a.sides.w a.sides.h (length a.s.now) (length a.out.now) a.t (none_above a.sides.w a.sides.h a.sides.wide a.sides.high)
+    (rw (← c.bytes.ensures, ← c.texels-count.ensures.value) c.if-s-count.false)
+    (rw (← c.texels-count.ensures.value) c.if-out-count.true)
+
+pub returns-then-out-count-clause-left : goal.returns-then-out-count-clause-left
+returns-then-out-count-clause-left c =
+    let a = c.args in
+    plain_unchanged (Some a.t) a.sides.w a.sides.h a.s.now a.out.now Output
+    (plain_15 a.sides.w a.sides.h (length a.s.now) (length a.out.now) a.t (none_above a.sides.w a.sides.h a.sides.wide a.sides.high)
+    (rw (← c.bytes.ensures, ← c.texels-count.ensures.value) c.if-s-count.false)
+    (rw (← c.texels-count.ensures.value) c.if-out-count.true))
+
+pub returns-clause-number : goal.returns-clause-number
+returns-clause-number c =
+    let a = c.args in
+    plain_0 a.sides.w a.sides.h (length a.s.now) (length a.out.now) a.t (none_above a.sides.w a.sides.h a.sides.wide a.sides.high)
+    (rw (← c.bytes.ensures, ← c.texels-count.ensures.value) c.if-s-count.false)
+    (rw (← c.texels-count.ensures.value) c.if-out-count.false)
+
+pub returns-clause-left : goal.returns-clause-left
+returns-clause-left c =
+    let a = c.args in
+    c.decode_texels.ensures
+    ∙ rw c.texels-count.ensures.value
+    (plain_drawn a.t a.sides.w a.sides.h a.s.now a.out.now
+    (plain_0 a.sides.w a.sides.h (length a.s.now) (length a.out.now) a.t (none_above a.sides.w a.sides.h a.sides.wide a.sides.high)
+    (rw (← c.bytes.ensures, ← c.texels-count.ensures.value) c.if-s-count.false)
+    (rw (← c.texels-count.ensures.value) c.if-out-count.false)))

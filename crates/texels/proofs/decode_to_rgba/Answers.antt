@@ -1,34 +1,38 @@
-use Rattle.answers.specs.declared.Refusal.TheVariants.{Format, Side}
-use Rattle.texels.specs.declared.Format.TheVariants.{Known, Unknown}
-use Rattle.texels.proofs.Plains.{wide_above, high_above, plain_14, plain_9, plain_unchanged}
+use mathlib.Core.Path.{◌≡◌, ◌∙◌}
 use lib.ListN.{length}
-use mathlib.Core.Path.{sym, ◌∙◌}
+use Rattle.std.specs.Prelude.{Some, None}
+use native.Mathlib.Omega.{arith}
+use Rattle.answers.specs.declared.Refusal.TheVariants.{Format, Side}
+use Rattle.texels.specs.Texels.{format_of}
+use Rattle.texels.proofs.Plains.{passed_on, plain_14, plain_9, plain_unchanged}
 use Rattle.texels.proofs.decode_to_rgba.Goals as goal
 
-pub returns-in_default : goal.returns-in_default
-returns-in_default c =
+pub returns-in_err-t-clause-number : goal.returns-in_err-t-clause-number
+returns-in_err-t-clause-number c =
     let a = c.args in
-    let e = sym c.format_of.ensures ∙ c.in_default.is in
-    let n = plain_14 a.width a.height (length a.s.now) (length a.out.now) in
-    (rw e n, rw e (plain_unchanged Unknown a.width a.height a.s.now a.out.now Format n))
+    let n : format_of a.format a.ty ≡ None = grind arith in
+    let e : c.in_err-t.field-0.0 ≡ Format = grind arith in
+    passed_on _ _ c.from_residual.ensures.1 ∙ rw (e, n) (plain_14 a.width a.height (length a.s.now) (length a.out.now))
 
-pub returns-then-width-gt1024 : goal.returns-then-width-gt1024
-returns-then-width-gt1024 c =
+pub returns-in_err-t-clause-left : goal.returns-in_err-t-clause-left
+returns-in_err-t-clause-left c =
     let a = c.args in
-    let e = sym c.format_of.ensures ∙ c.in-Known.is in
-    let n = plain_9 a.width a.height (length a.s.now) (length a.out.now) c.in-Known.t
-    (wide_above a.width a.height c.if-width-gt1024.true) in
-    (rw e n, rw e (plain_unchanged (Known c.in-Known.t) a.width a.height a.s.now a.out.now Side n))
+    let n : format_of a.format a.ty ≡ None = grind arith in
+    rw n (plain_unchanged None a.width a.height a.s.now a.out.now Format (plain_14 a.width a.height (length a.s.now) (length a.out.now)))
 
-pub returns-then-height-gt1024 : goal.returns-then-height-gt1024
-returns-then-height-gt1024 c =
+pub returns-in_err-new-clause-number : goal.returns-in_err-new-clause-number
+returns-in_err-new-clause-number c =
     let a = c.args in
-    let e = sym c.format_of.ensures ∙ c.in-Known.is in
-    let n = plain_9 a.width a.height (length a.s.now) (length a.out.now) c.in-Known.t
-    (high_above a.width a.height c.if-width-gt1024.false c.if-height-gt1024.true) in
-    (rw e n, rw e (plain_unchanged (Known c.in-Known.t) a.width a.height a.s.now a.out.now Side n))
+    let t = c.in_ok-t.t in
+    let n : format_of a.format a.ty ≡ Some t = grind arith in
+    passed_on _ _ c.from_residual-in_err-new.ensures.1
+    ∙ rw (c.in_err-new.ensures.1, n) (plain_9 a.width a.height (length a.s.now) (length a.out.now) t c.in_err-new.ensures.0)
 
-pub returns : goal.returns
-returns c =
-    let e = sym c.format_of.ensures ∙ c.in-Known.is in
-    rw e c.decode_known.ensures
+pub returns-in_err-new-clause-left : goal.returns-in_err-new-clause-left
+returns-in_err-new-clause-left c =
+    let a = c.args in
+    let t = c.in_ok-t.t in
+    let n : format_of a.format a.ty ≡ Some t = grind arith in
+    rw n
+    (plain_unchanged (Some t) a.width a.height a.s.now a.out.now Side
+    (plain_9 a.width a.height (length a.s.now) (length a.out.now) t c.in_err-new.ensures.0))

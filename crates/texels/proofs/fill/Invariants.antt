@@ -1,7 +1,7 @@
 use Rattle.texels.specs.Texels.{nth_texel}
 use Rattle.lists.specs.Lists.{flat}
 use lib.ListN.{length, drop}
-use Prim.Native.Nat.{◌+◌, ◌-◌, ◌*◌, ◌≤◌}
+use Prim.Native.Nat.{◌-◌, ◌*◌, ◌≤◌}
 use mathlib.Core.List.{◌++◌}
 use mathlib.Core.Path.{◌≡◌}
 use Rattle.texels.proofs.fill.Given as goal

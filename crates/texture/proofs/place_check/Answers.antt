@@ -1,33 +1,34 @@
-use mathlib.Core.Path.{refl, sym, ap, ◌∙◌}
+use Rattle.std.proofs.Common.{rules, refl, sym, ap, ◌∙◌}
 use Rattle.lists.specs.Lists.{any}
 use Rattle.levels.specs.Levels.{overlaps}
-use borrow.Author.Tests.{not-true, not-false}
 use Rattle.lists.proofs.Choice.{yes, no}
 use Rattle.levels.proofs.Valid.{fits_past, fits_within}
 use Rattle.texture.specs.Define.{place_check}
 use Rattle.texture.proofs.Defining.{stay_fits}
-use borrow.Author.Rules.{rules}
 use Rattle.texture.proofs.place_check.Goals as goal
 
 pub returns-then-not-does_fit : goal.returns-then-not-does_fit
 unfolding place_check
 returns-then-not-does_fit c =
     let p = c.requires in
-    yes _ (fits_past _ _ p.1 p.2 p.3 (sym c.does_fit.ensures ∙ not-true _ c.if-not-does_fit.true-raw)) refl
+    yes _ (fits_past _ _ p.1 p.2 p.3 (sym c.does_fit.ensures ∙ c.if-not-does_fit.true)) refl
+
+pub invariant_of-others : goal.invariant_of-others
+invariant_of-others c = record { fit = rw c.staying.ensures (stay_fits _ _ _ c.requires.0) }
 
 pub any_overlap-requires : goal.any_overlap-requires
-any_overlap-requires c = (search rules, sym c.does_fit.ensures ∙ not-false _ c.if-not-does_fit.false-raw, rw c.staying.ensures (stay_fits _ _ _ c.requires.0))
+any_overlap-requires c = (search rules, sym c.does_fit.ensures ∙ c.if-not-does_fit.false)
 
 pub returns-then-any_overlap : goal.returns-then-any_overlap
 unfolding place_check
 returns-then-any_overlap c =
     let p = c.requires in
-    no _ (fits_within _ _ p.1 p.2 p.3 (sym c.does_fit.ensures ∙ not-false _ c.if-not-does_fit.false-raw))
+    no _ (fits_within _ _ p.1 p.2 p.3 (sym c.does_fit.ensures ∙ c.if-not-does_fit.false))
     (yes _ (ap (any (overlaps c.args.m)) (sym c.staying.ensures) ∙ sym c.any_overlap.ensures ∙ c.if-any_overlap.true) refl)
 
 pub returns : goal.returns
 unfolding place_check
 returns c =
     let p = c.requires in
-    no _ (fits_within _ _ p.1 p.2 p.3 (sym c.does_fit.ensures ∙ not-false _ c.if-not-does_fit.false-raw))
+    no _ (fits_within _ _ p.1 p.2 p.3 (sym c.does_fit.ensures ∙ c.if-not-does_fit.false))
     (no _ (ap (any (overlaps c.args.m)) (sym c.staying.ensures) ∙ sym c.any_overlap.ensures ∙ c.if-any_overlap.false) refl)

@@ -6,6 +6,3 @@ use Rattle.probes.proofs.probe_floats.probe_to_bytes.Given as goal
 
 abbrev pub invariant-loop-i : goal.invariant-loop-i
 invariant-loop-i l = Mapped (byte_at l.src) (length l.src) l.initial.out l.out l.i
-
-abbrev pub decreases-loop-i : goal.decreases-loop-i
-decreases-loop-i l = length l.src - l.i

@@ -6,6 +6,3 @@ use Rattle.probes.proofs.probe_sampler.fill.Given as goal
 
 abbrev pub invariant-loop-i : goal.invariant-loop-i
 invariant-loop-i l = Mapped (sample_at l.store l.texture l.coords) (length l.initial.out) l.initial.out l.out l.i
-
-abbrev pub decreases-loop-i : goal.decreases-loop-i
-decreases-loop-i l = length l.initial.out - l.i

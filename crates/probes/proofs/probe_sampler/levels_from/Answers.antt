@@ -1,13 +1,10 @@
-use native.Mathlib.Omega.{arith}
-use Rattle.probes.specs.Sampling.{levels_from}
+use Rattle.std.proofs.Common.{◌∙◌, ℕ, rules, arith}
+use Rattle.std.proofs.lemmas.List.FromFn.{fill_by_all}
+use Rattle.levels.specs.Levels.{absent}
+use Rattle.probes.specs.Sampling.{level_from, levels_from}
 use Rattle.probes.proofs.probe_sampler.levels_from.Goals as goal
-
-pub level_from-requires-10 : goal.level_from-requires-10
-level_from-requires-10 c = (omega arith, c.requires)
-
-pub level_from-requires-11 : goal.level_from-requires-11
-level_from-requires-11 c = (omega arith, c.requires)
 
 pub returns : goal.returns
 unfolding levels_from
-returns c = rw (c.level_from.ensures, c.level_from-2.ensures, c.level_from-3.ensures, c.level_from-4.ensures, c.level_from-5.ensures, c.level_from-6.ensures, c.level_from-7.ensures, c.level_from-8.ensures, c.level_from-9.ensures, c.level_from-10.ensures, c.level_from-11.ensures)
+returns c =
+    fill_by_all (λ (k : ℕ). level_from c.args.numbers.now k) _ 11 absent c.loop-k.invariant.0 (λ k h. c.loop-k.invariant.1 k (omega (arith, h, c.loop-k-test.false)))

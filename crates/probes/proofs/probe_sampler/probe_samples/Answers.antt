@@ -11,7 +11,7 @@ returns-then-not-is_valid c =
     rw (sym c.texture_from-texture.ensures) (no _ v refl, no _ v refl)
 
 pub fill-requires : goal.fill-requires
-fill-requires c = record { thresholds = c.thresholds-table.ensures; valid = sym c.is_valid.ensures ∙ not-false _ c.if-not-is_valid.false-raw; coordinates = c.requires.1; places_known = c.places-places.ensures; sides_known = c.sides-sides.ensures }
+fill-requires c = record { valid = sym c.is_valid.ensures ∙ not-false _ c.if-not-is_valid.false-raw; coordinates = c.requires.1 }
 
 pub returns : goal.returns
 unfolding sample_check

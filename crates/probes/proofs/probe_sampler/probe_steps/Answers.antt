@@ -7,9 +7,6 @@ use Rattle.probes.proofs.probe_sampler.probe_steps.Goals as goal
 pub loop-i-init : goal.loop-i-init
 loop-i-init c = mapped_none (steps_at c.args.src.now) c.requires
 
-pub steps_from-requires : goal.steps_from-requires
-steps_from-requires c = c.thresholds-table.ensures
-
 pub loop-i-preserved : goal.loop-i-preserved
 loop-i-preserved c = mapped_more c.loop-i.invariant c.loop-i-test.true c.steps_from.ensures
 

@@ -1,28 +1,18 @@
-use mathlib.Core.Path.{refl, sym, ap, ◌∙◌}
-use Rattle.lists.proofs.Choice.{stay, leave}
-use Rattle.layouts.specs.declared.RecordRead.{RecordRead}
-use Rattle.sampler.specs.Samples.{Outcome, outcome_of, sample_call}
-use Rattle.tilefringe.specs.SampleCalls.{coordinates, ended, layout_sample}
+use Rattle.std.proofs.Common.{refl, sym, ap, ◌∙◌}
+use Rattle.sampler.specs.Samples.{Outcome, outcome_of}
+use Rattle.tilefringe.specs.SampleCalls.{ended, layout_sample}
 use Rattle.tilefringe.proofs.sample_calls.tf_sample.Goals as goal
 
-pub returns-then-not-read : goal.returns-then-not-read
+pub returns-in_default : goal.returns-in_default
 unfolding layout_sample
-returns-then-not-read c = leave _ (ap (λ (r : RecordRead). r.known) c.read_record-read.ensures) c.if-not-read.true refl
+returns-in_default c = rw (sym c.in_default.ensures) refl
 
-pub returns-in-Sampled : goal.returns-in-Sampled
+pub returns-in-Ok : goal.returns-in-Ok
 unfolding layout_sample
-returns-in-Sampled c =
-    let a = c.args in
-    stay _ (ap (λ (r : RecordRead). r.known) c.read_record-read.ensures) c.if-not-read.false
-    (rw c.packed_texel.ensures
-    (ap (λ (o : Outcome). ended a.texel.now o)
-    (ap outcome_of (sym c.in-Sampled.is) ∙ c.sample.ensures ∙ ap (λ (r : RecordRead). sample_call a.store.now r.texture (coordinates a.s a.t a.dsdx a.dtdx a.dsdy a.dtdy)) c.read_record-read.ensures)))
+returns-in-Ok c =
+    rw (sym c.in-Some.ensures, c.packed_texel.ensures) (ap (λ (o : Outcome). ended c.args.texel.now o) (ap outcome_of (sym c.in-Ok.is) ∙ c.sample.ensures))
 
-pub returns-in-Refused : goal.returns-in-Refused
+pub returns-in-Err : goal.returns-in-Err
 unfolding layout_sample
-returns-in-Refused c =
-    let a = c.args in
-    stay _ (ap (λ (r : RecordRead). r.known) c.read_record-read.ensures) c.if-not-read.false
-    (rw c.number.ensures
-    (ap (λ (o : Outcome). ended a.texel.now o)
-    (ap outcome_of (sym c.in-Refused.is) ∙ c.sample.ensures ∙ ap (λ (r : RecordRead). sample_call a.store.now r.texture (coordinates a.s a.t a.dsdx a.dtdx a.dsdy a.dtdy)) c.read_record-read.ensures)))
+returns-in-Err c =
+    rw (sym c.in-Some.ensures, c.number.ensures) (ap (λ (o : Outcome). ended c.args.texel.now o) (ap outcome_of (sym c.in-Err.is) ∙ c.sample.ensures))

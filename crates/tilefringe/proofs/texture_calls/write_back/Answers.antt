@@ -1,14 +1,16 @@
-use mathlib.Core.Path.{refl, sym, ap, ◌∙◌}
+use Rattle.std.proofs.Common.{refl}
+use Rattle.answers.proofs.Answered.{refused_test}
 use Rattle.lists.proofs.Choice.{no}
-use Rattle.answers.specs.Numbers.{number_of}
-use Rattle.texture.proofs.Defining.{refused_number}
 use Rattle.tilefringe.specs.TextureCalls.{written}
 use Rattle.tilefringe.proofs.texture_calls.write_back.Goals as goal
 
-pub returns-in-Refused : goal.returns-in-Refused
+pub returns-in_err-answer-clause-layout : goal.returns-in_err-answer-clause-layout
 unfolding written
-returns-in-Refused c = (c.number.ensures ∙ ap number_of (sym c.in-Refused.is), no _ (refused_number c.in-Refused.is refl) refl)
+returns-in_err-answer-clause-layout c = λ t. rw c.in_err-answer.was (no _ (refused_test c.in_err-answer.field-0.0 _ refl) refl)
 
-pub returns-in-Done : goal.returns-in-Done
+pub returns : goal.returns
 unfolding written
-returns-in-Done c = rw c.in-Done.is (refl, c.write_record.ensures)
+returns c = record {
+  number = rw c.in_ok-answer.was refl;
+  layout = λ t. rw c.in_ok-answer.was c.write_record.ensures;
+}

@@ -1,0 +1,27 @@
+use mathlib.Core.Path.{subst}
+use Prim.Native.Nat.{◌≤◌}
+use lib.ListN.{length}
+use Rattle.std.specs.Prelude.{Some}
+use Rattle.compressed.specs.declared.Compressed.{Compressed}
+use Rattle.compressed.specs.Compressed.{size_of, compressed_image}
+use Rattle.compressed.proofs.Compressed.decode_image.Goals as goal
+
+pub decode_blocks-requires : goal.decode_blocks-requires
+unfolding size_of
+decode_blocks-requires c =
+    let a = c.args in
+    (subst (λ (g : Compressed). size_of (Some g) a.sides.w a.sides.h ≤ length a.s.now) c.in-Blocks.is c.requires.0, c.requires.1)
+
+pub decode_paletted-requires : goal.decode_paletted-requires
+unfolding size_of
+decode_paletted-requires c =
+    let a = c.args in
+    (subst (λ (g : Compressed). size_of (Some g) a.sides.w a.sides.h ≤ length a.s.now) c.in-Palette.is c.requires.0, c.requires.1)
+
+pub returns-in-Blocks : goal.returns-in-Blocks
+unfolding compressed_image
+returns-in-Blocks c = rw c.in-Blocks.is c.decode_blocks.ensures
+
+pub returns-in-Palette : goal.returns-in-Palette
+unfolding compressed_image
+returns-in-Palette c = rw c.in-Palette.is c.decode_paletted.ensures

@@ -1,6 +1,0 @@
-use mathlib.Core.Path.{sym, ◌∙◌}
-use Rattle.levels.proofs.Apart.{ascending_apart}
-use Rattle.levels.proofs.are_apart.Goals as goal
-
-pub returns-then-are_ascending : goal.returns-then-are_ascending
-returns-then-are_ascending c = sym (ascending_apart _ 0 (sym c.are_ascending.ensures ∙ c.if-are_ascending.true))

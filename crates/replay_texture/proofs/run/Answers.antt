@@ -1,5 +1,0 @@
-use mathlib.Core.Path.{refl}
-use Rattle.replay_texture.proofs.run.Goals as goal
-
-pub loop-turns-init : goal.loop-turns-init
-loop-turns-init c = (refl, refl, refl)

@@ -1,6 +1,0 @@
-use Rattle.vertices.specs.Vertex.{inside}
-use Rattle.vertices.proofs.is_inside.Goals as goal
-
-pub returns : goal.returns
-unfolding inside
-returns c = rw c.clip_distance.ensures
