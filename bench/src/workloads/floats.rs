@@ -79,7 +79,7 @@ impl Workload for Floor {
     }
 
     fn bar(&self) -> Option<f64> {
-        None
+        Some(1.0)
     }
 
     fn units(&self) -> u64 {

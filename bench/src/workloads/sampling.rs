@@ -8,7 +8,7 @@ const SIDE: u32 = 256;
 
 pub fn workloads() -> Vec<Box<dyn Workload>> {
     vec![
-        Box::new(Sampling::new("nearest", 0.65, 0, MinFilter::Nearest, Filter::Nearest, 1.7)),
+        Box::new(Sampling::new("nearest", 0.5, 0, MinFilter::Nearest, Filter::Nearest, 1.7)),
         Box::new(Sampling::new("linear", 0.55, 1, MinFilter::Linear, Filter::Linear, 1.7)),
         Box::new(Sampling::new("trilinear", 0.6, 5, MinFilter::LinearMipmapLinear, Filter::Linear, 1.7)),
     ]

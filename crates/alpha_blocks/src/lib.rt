@@ -1,15 +1,16 @@
 // The alphas of a block of four by four texels that has them apart: explicit and interpolated (texture.rs).
 #![tactic(auto)]
 
-ghost use Rattle.std.specs.Prelude.{◌≡◌, ◌+◌, ◌*◌, ◌/◌, ◌%◌, ◌^◌, ◌≤◌, ◌<◌, length, get_or};
+ghost use Rattle.std.specs.Prelude.{◌≡◌, ◌+◌, ◌*◌, ◌/◌, ◌%◌, ◌^◌, ◌≤◌, ◌<◌, get_or};
 ghost use Rattle.lists.specs.Lists.{tab};
-ghost use Rattle.alpha_blocks.specs.AlphaBlocks.{mixed, ThreeBits, selector, three_bytes, explicit_alpha, alpha_palette, alpha_selectors, interpolated_alpha};
+ghost use Rattle.alpha_blocks.specs.AlphaBlocks.{mixed, ThreeBits, selector, explicit_alpha, alpha_palette, alpha_selectors, interpolated_alpha};
 
 use std::array;
 use texels::*;
 
 // k n-ths of the way from a to b, rounded down.
 pub fn mix(k: u32, n: u32, a: u8, b: u8) -> u8
+    // Kept: a type for k n-ths would be made anew at each of fifteen calls, (Share { k: 1, n: 7 }).mix(a0, a1) for mix(1, 7, a0, a1). (5a)
     requires { (0 < n) × (n ≤ 8) × (k ≤ n) }
     ensures { result ≡ mixed k n a b }
 {
@@ -25,11 +26,10 @@ pub fn selector<const K: usize>(bits: u32, i: usize) -> u32
 }
 
 // The low half of a byte is the first of its two.
-pub fn explicit_alpha_block(s: &[u8], at: usize) -> [u8; 16]
-    requires { at + 8 ≤ length s.now }
-    ensures { result ≡ explicit_alpha s.now at }
+pub fn explicit_alpha_block(block: &[u8; 8]) -> [u8; 16]
+    ensures { result ≡ explicit_alpha block.now 0 }
 {
-    array::from_fn(|i| expand::<4>(u32::from(s[at + i / 2]) >> (4 * (i % 2))))
+    array::from_fn(|i| expand::<4>(u32::from(block[i / 2]) >> (4 * (i % 2))))
 }
 
 fn alpha_palette(a0: u8, a1: u8) -> [u8; 8]
@@ -39,6 +39,7 @@ fn alpha_palette(a0: u8, a1: u8) -> [u8; 8]
         [
             a0,
             a1,
+            // Kept: in the order of the definition; array::from_fn would tell the two ends from these by a match on i. (3f)
             mix(1, 7, a0, a1),
             mix(2, 7, a0, a1),
             mix(3, 7, a0, a1),
@@ -50,6 +51,7 @@ fn alpha_palette(a0: u8, a1: u8) -> [u8; 8]
         [
             a0,
             a1,
+            // Kept: as the six above, with 0 and 255 to tell besides. (3f)
             mix(1, 5, a0, a1),
             mix(2, 5, a0, a1),
             mix(3, 5, a0, a1),
@@ -61,11 +63,10 @@ fn alpha_palette(a0: u8, a1: u8) -> [u8; 8]
 }
 
 // Three bytes, the low one first.
-fn three_bytes(s: &[u8], at: usize) -> u32
-    requires { at + 3 ≤ length s.now }
-    ensures { (result ≡ three_bytes s.now at) × (result < 16777216) }
+fn three_bytes(a: u8, b: u8, c: u8) -> u32
+    ensures { (result ≡ a + b * 256 + c * 65536) × (result < 16777216) }
 {
-    u32::from_le_bytes([s[at], s[at + 1], s[at + 2], 0])
+    u32::from_le_bytes([a, b, c, 0])
 }
 
 // The i-th of sixteen selectors, from two halves of eight.
@@ -79,13 +80,13 @@ fn half_selector(low: u32, high: u32, i: usize) -> u8
     selector::<3>(high, i - 8) as u8
 }
 
-// The one reader of an alpha block's sixteen selectors of three bits, from its six bytes.
-fn alpha_selectors(s: &[u8], at: usize) -> [u8; 16]
-    requires { at + 6 ≤ length s.now }
-    ensures { result ≡ alpha_selectors s.now at }
+// The one reader of an alpha block's sixteen selectors of three bits, from its last six bytes.
+fn alpha_selectors(block: &[u8; 8]) -> [u8; 16]
+    ensures { result ≡ alpha_selectors block.now 2 }
 {
-    let low = three_bytes(s, at);
-    let high = three_bytes(s, at + 3);
+    let [_, _, a, b, c, d, e, f] = *block;
+    let low = three_bytes(a, b, c);
+    let high = three_bytes(d, e, f);
     array::from_fn(|i| half_selector(low, high, i))
 }
 
@@ -96,9 +97,8 @@ fn chosen_alphas(palette: [u8; 8], selectors: [u8; 16]) -> [u8; 16]
     array::from_fn(|i| palette[usize::from(selectors[i])])
 }
 
-pub fn interpolated_alpha_block(s: &[u8], at: usize) -> [u8; 16]
-    requires { at + 8 ≤ length s.now }
-    ensures { result ≡ interpolated_alpha s.now at }
+pub fn interpolated_alpha_block(block: &[u8; 8]) -> [u8; 16]
+    ensures { result ≡ interpolated_alpha block.now 0 }
 {
-    chosen_alphas(alpha_palette(s[at], s[at + 1]), alpha_selectors(s, at + 2))
+    chosen_alphas(alpha_palette(block[0], block[1]), alpha_selectors(block))
 }

@@ -9,7 +9,7 @@ use blocks::*;
 use texels::Sides;
 
 // Where a block stands: the image's sides, its column and its row among the blocks.
-#[derive(Clone, Copy)]
+#[derive(Clone, Copy, Debug, PartialEq, Eq)]
 struct Place {
     sides: Sides,
     bx: usize,
@@ -36,13 +36,14 @@ impl Place {
 
 // The blocks that cover a side.
 pub fn block_count(side: usize) -> usize
-    requires { side ≤ 1024 }
     ensures { result ≡ blocks_over side }
 {
     side.div_ceil(4)
 }
 
 // A block stored. Of one that is not WHOLE a texel that hangs over the edge is dropped.
+// Kept: colours and alphas come from two readers; joined first, the sixteen would be copied and walked once more. (6c)
+#[tactic(auto, using(lists::proofs::Turns::iter_none))]
 fn put_texels<const WHOLE: bool>(rgb: [[u8; 3]; 16], alpha: [u8; 16], out: &mut [u8], place: Place)
     requires size { length out.old ≡ place.sides.h * place.sides.w * 4 }
     requires whole { IsTrue WHOLE → (place.bx * 4 + 4 ≤ place.sides.w) × (place.by * 4 + 4 ≤ place.sides.h) }
@@ -58,12 +59,15 @@ fn put_texels<const WHOLE: bool>(rgb: [[u8; 3]; 16], alpha: [u8; 16], out: &mut 
     }
 }
 
+// Kept: the block's kind, data and output go on to two readers and a writer, each of its own. (5c)
 fn decode_block(b: Block, s: &[u8], at: usize, out: &mut [u8], place: Place)
     requires { (at + block_bytes b ≤ length s.now) × (length out.old ≡ place.sides.h * place.sides.w * 4) }
     ensures { out.new ≡ put_block place.sides.w place.sides.h (block_texel b s.now at) place.bx place.by out.old }
 {
-    let rgb = b.rgb(s, at);
-    let alpha = b.alpha(s, at);
+    let colours = eight(s, at + b.alpha_bytes());
+    let first = eight(s, at);
+    let rgb = b.rgb(colours);
+    let alpha = b.alpha(first);
     if place.is_whole() {
         put_texels::<true>(rgb, alpha, out, place);
     } else {
@@ -71,18 +75,21 @@ fn decode_block(b: Block, s: &[u8], at: usize, out: &mut [u8], place: Place)
     }
 }
 
+#[tactic(auto, using(lists::proofs::Turns::iter_none))]
 fn decode_row(b: Block, s: &[u8], out: &mut [u8], sides: Sides, by: usize)
     requires { (by ≤ 256) × ((by + 1) * blocks_over sides.w * block_bytes b ≤ length s.now) × (length out.old ≡ sides.h * sides.w * 4) }
     ensures { out.new ≡ put_row (block_texel b) (block_bytes b) sides.w sides.h s.now by out.old }
 {
     let bw = block_count(sides.w);
     let bytes = b.bytes();
+    // Kept: bx is the block's column too; in chunks the row would be s[by * bw * bytes..].chunks_exact(bytes).take(bw).enumerate(). (3d)
     for bx in 0..bw {
         let place = Place { sides, bx, by };
         decode_block(b, s, (by * bw + bx) * bytes, out, place);
     }
 }
 
+#[tactic(auto, using(lists::proofs::Turns::iter_none))]
 pub fn decode_blocks(b: Block, s: &[u8], out: &mut [u8], sides: Sides)
     requires { (blocks_over sides.h * blocks_over sides.w * block_bytes b ≤ length s.now) × (length out.old ≡ sides.h * sides.w * 4) }
     ensures { out.new ≡ block_image (block_texel b) (block_bytes b) sides.w sides.h s.now }

@@ -52,6 +52,10 @@ always_four AtcRgb = false
 always_four AtcExplicit = false
 always_four AtcInterpolated = false
 
+-- texture.rs, decode_compressed_to_rgba: the colours in the eight bytes of s from `at` on
+abbrev pub colours_in : Block → List ℕ → ℕ → List (List ℕ)
+colours_in b s at = cond (is_dxt b) (dxt (always_four b) s at) (atc s at)
+
 -- texture.rs, decode_compressed_to_rgba: a block's colours follow its alphas
 abbrev pub block_rgb : Block → List ℕ → ℕ → List (List ℕ)
 block_rgb b s at = cond (is_dxt b) (dxt (always_four b) s (at + alpha_bytes b)) (atc s (at + alpha_bytes b))

@@ -1,8 +1,8 @@
 // Blocks of four by four texels: what each format's bytes are, its colours and its alphas (texture.rs; DXT3 and DXT5 by 2026-14).
 #![tactic(auto)]
 
-ghost use Rattle.std.specs.Prelude.{◌≡◌, ◌+◌, ◌≤◌, length};
-ghost use Rattle.blocks.specs.Blocks.{opaque, block_bytes, is_dxt, always_four, alpha_bytes, block_rgb, alphas_of, block_alpha};
+ghost use Rattle.std.specs.Prelude.{◌≡◌, ◌+◌, ◌≤◌, length, take, drop};
+ghost use Rattle.blocks.specs.Blocks.{opaque, block_bytes, is_dxt, always_four, alpha_bytes, colours_in, alphas_of, alphas_in};
 
 use alpha_blocks::*;
 use colour_blocks::*;
@@ -28,6 +28,15 @@ pub enum Alphas {
     Interpolated,
 }
 
+// The eight bytes of s from `at` on: a block's colours, or its alphas.
+pub fn eight(s: &[u8], at: usize) -> &[u8; 8]
+    requires { at + 8 ≤ length s.now }
+    ensures { result.now ≡ take 8 (drop at s.now) }
+{
+    s[at..].first_chunk().unwrap()
+}
+
+#[tactic(auto, unfolding(crate::specs::Blocks::opaque, lists::specs::Lists::tab))]
 fn opaque_block() -> [u8; 16]
     ensures { result ≡ opaque }
 {
@@ -36,6 +45,7 @@ fn opaque_block() -> [u8; 16]
 
 impl Block {
     // The bytes of a block.
+    // Kept: texels::TexelFormat::bytes is another enum's table. (2c)
     pub fn bytes(self) -> usize
         ensures { result ≡ block_bytes self }
     {
@@ -61,14 +71,11 @@ impl Block {
         matches!(self, Block::Dxt3 | Block::Dxt5)
     }
 
-    // The bytes of a block before its colours.
-    fn alpha_bytes(self) -> usize
+    // The bytes of a block before its colours, which are its last eight.
+    pub fn alpha_bytes(self) -> usize
         ensures { (result ≡ alpha_bytes self) × (result + 8 ≡ block_bytes self) }
     {
-        match self {
-            Block::Dxt1Rgb | Block::Dxt1Rgba | Block::AtcRgb => 0,
-            Block::AtcExplicit | Block::AtcInterpolated | Block::Dxt3 | Block::Dxt5 => 8,
-        }
+        self.bytes() - 8
     }
 
     // How a format's alphas are read.
@@ -83,28 +90,25 @@ impl Block {
         }
     }
 
-    // Each colour decoder is called in one place, so that the compiler lays it into the walk.
-    pub fn rgb(self, s: &[u8], at: usize) -> [[u8; 3]; 16]
-        requires { at + block_bytes self ≤ length s.now }
-        ensures { result ≡ block_rgb self s.now at }
+    // The colours of a block, whose bytes follow its alphas'. Each decoder is called in one place, so that the compiler lays it into the walk.
+    pub fn rgb(self, colours: &[u8; 8]) -> [[u8; 3]; 16]
+        ensures { result ≡ colours_in self colours.now 0 }
     {
-        let from = at + self.alpha_bytes();
         if self.is_dxt() {
-            return dxt_rgb_block(self.always_four(), s, from);
+            return dxt_rgb_block(self.always_four(), colours);
         }
-        atc_rgb_block(s, from)
+        atc_rgb_block(colours)
     }
 
-    // The alphas of a block. Each of their readers too is called in one place.
-    pub fn alpha(self, s: &[u8], at: usize) -> [u8; 16]
-        requires { at + block_bytes self ≤ length s.now }
-        ensures { result ≡ block_alpha self s.now at }
+    // The alphas of a block, from its first eight bytes. Each of their readers too is called in one place.
+    pub fn alpha(self, first: &[u8; 8]) -> [u8; 16]
+        ensures { result ≡ alphas_in (alphas_of self) first.now 0 }
     {
         match self.alphas() {
             Alphas::Opaque => opaque_block(),
-            Alphas::Selected => dxt1_alpha_block(s, at),
-            Alphas::Explicit => explicit_alpha_block(s, at),
-            Alphas::Interpolated => interpolated_alpha_block(s, at),
+            Alphas::Selected => dxt1_alpha_block(first),
+            Alphas::Explicit => explicit_alpha_block(first),
+            Alphas::Interpolated => interpolated_alpha_block(first),
         }
     }
 }

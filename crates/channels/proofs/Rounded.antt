@@ -15,14 +15,14 @@ use lib.Ieee.Positive.{num, den, positive, above, above_of_le, le→cross}
 use native.Mathlib.Nat.{div-lt_iff_lt-mul, le-div_iff_mul-le, div-one, zero-lt-suc, mul-pos, mul-le-mul_right, lt_of_mul-lt-mul_right, mul-lt-mul_of_pos_right, lt_of_lt_of_le, le_of_eq, mul_right_comm}
 use native.Mathlib.Omega.{arith}
 use borrow.Author.Tests.{ltb-true, ltb-false, le-ltb}
-use Rattle.lists.proofs.Choice.{true_false}
+use Rattle.std.proofs.lemmas.Bool.{true≢false, false≢true}
 use Rattle.floats.specs.Num.{clamp_of}
 use Rattle.floats.proofs.Signs.{nought}
 use Rattle.rounding.specs.Rounding.{half_div, whole_by, round_of, Part}
 use Rattle.rounding.proofs.Kept.{half_exact}
 use Rattle.rounding.proofs.Halves.{two, double, half}
 use Rattle.channels.specs.Channel.{held_of, round_byte_of}
-use Rattle.channels.proofs.Scaled.{full}
+use Rattle.channels.proofs.Scaled.{full, at_255}
 
 -- ---- the byte of a rounded float
 abbrev byte : Float → ℕ
@@ -32,7 +32,7 @@ byte_whole : (v : Float) (n : ℕ) → HasValue v false n 1 → n ≤ 255 → n 
 unfolding clamp_of to_unsigned lt
 byte_whole nan n h l = absurd h
 byte_whole (inf s) n h l = absurd h
-byte_whole (fin true m e) n h l = absurd (true_false h.0)
+byte_whole (fin true m e) n h l = absurd (true≢false h.0)
 byte_whole (fin false m e) n h l =
     let q : m * up e / down e ≡ n = div_same (m * up e) (down e) n 1 (down_pos e) (zero-lt-suc 0) h.1 ∙ div-one n in
     let k : n * down e ≤ 255 * down e = mul-le-mul_right (down e) l in
@@ -95,19 +95,15 @@ unfolding round_byte_of round_of whole_by of_bits
 byte_is s m e = refl
 
 -- ---- from 255 on, and up to 0
-at_255 : round binary32 false 255 1 ≡ full
-unfolding round
-at_255 = refl
-
 at_least : (a d : ℕ) → 0 < d → 255 * d ≤ a → 255 ≤ half_div a d
 at_least a d h l = (le-div_iff_mul-le {k = d * 2} {x = 255} {y = a * 2 + d} (omega arith)).1 (omega arith)
 
 high_byte : (x : Float) → lt nought x ≡ true → lt x full ≡ false → 255 ≡ round_byte_of x
 unfolding lt round_byte_of round_of whole_by of_bits clamp_of to_unsigned
-high_byte nan a b = absurd (true_false (sym a))
-high_byte (inf true) a b = absurd (true_false (sym a))
+high_byte nan a b = absurd (false≢true a)
+high_byte (inf true) a b = absurd (false≢true a)
 high_byte (inf false) a b = refl
-high_byte (fin true m d) a b = absurd (true_false (sym a))
+high_byte (fin true m d) a b = absurd (false≢true a)
 high_byte (fin false m d) a b =
     let n = half_div (m * up d) (down d) in
     let l : 255 ≤ n = at_least (m * up d) (down d) (down_pos d) (omega (arith, ltb-false (m * up d * 1) (255 * 1 * down d) b)) in
@@ -117,7 +113,7 @@ no_byte : (x : Float) → lt nought x ≡ false → 0 ≡ round_byte_of x
 unfolding lt round_byte_of round_of whole_by of_bits clamp_of to_unsigned
 no_byte nan a = refl
 no_byte (inf true) a = refl
-no_byte (inf false) a = absurd (true_false a)
+no_byte (inf false) a = absurd (true≢false a)
 no_byte (fin true m d) a = byte_below _
 no_byte (fin false zero d) a =
     let z : half_div (0 * up d) (down d) ≡ 0 = half_exact (0 * up d) (down d) 0 (down_pos d) (omega arith) in
@@ -132,7 +128,7 @@ part_value : (v : Float) (a c : ℕ) → 0 < c → HasValue v false a c → a < 
 unfolding to_unsigned
 part_value nan a c C h l = absurd h
 part_value (inf s) a c C h l = absurd h
-part_value (fin true m e) a c C h l = absurd (true_false h.0)
+part_value (fin true m e) a c C h l = absurd (true≢false h.0)
 part_value (fin false m e) a c C h l = (
   (lt_of_mul-lt-mul_right c (subst (λ (z : ℕ). z < 2 ^ 9 * down e * c) (sym h.1) (lt_of_lt_of_le (mul-lt-mul_of_pos_right (more a c l) (down_pos e)) (le_of_eq (mul_right_comm (2 ^ 9) c (down e)))))),
   omega (arith, div_same (m * up e) (down e) a c (down_pos e) C h.1, (div-lt_iff_lt-mul {k = c} {x = a} {y = 510} C).1 l),
@@ -143,10 +139,10 @@ part_value (fin false m e) a c C h l = (
 
 between : (x : Float) → T (fits binary32 x) → lt nought x ≡ true → lt x full ≡ true → Right x (mul binary32 x two)
 unfolding lt
-between nan f a b = absurd (true_false (sym a))
-between (inf true) f a b = absurd (true_false (sym a))
-between (inf false) f a b = absurd (true_false (sym b))
-between (fin true m d) f a b = absurd (true_false (sym a))
+between nan f a b = absurd (false≢true a)
+between (inf true) f a b = absurd (false≢true a)
+between (inf false) f a b = absurd (false≢true b)
+between (fin true m d) f a b = absurd (false≢true a)
 between (fin false zero d) f a b = absurd (omega (arith, ltb-true (0 * 1 * down d) (0 * up d * 1) a))
 between (fin false (suc m) d) f a b =
     let A = suc m * up d in

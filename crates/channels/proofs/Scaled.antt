@@ -78,7 +78,7 @@ plain (inf false) n g p h = absurd h
 plain (fin true m e) n g p h = absurd p
 plain (fin false m e) n g p h = record { digits = m; exponent = e; is = refl; bound = or_le (m * up e * down g) (n * up g * down e) _ h }
 
-at_255 : round binary32 false 255 1 ≡ full
+pub at_255 : round binary32 false 255 1 ≡ full
 unfolding round
 at_255 = refl
 

@@ -7,6 +7,7 @@ ghost use Rattle.floats.specs.Num.{zero32};
 ghost use Rattle.channels.specs.Channel.{unit_of, byte_of, round_byte_of, held_of};
 
 // v / 255
+#[tactic(auto, unfolding(crate::specs::Channel::unit_of))]
 pub fn to_unit(v: u8) -> f32
     ensures { result ≡ unit_of v }
 {
@@ -14,7 +15,7 @@ pub fn to_unit(v: u8) -> f32
 }
 
 // x where it is above 0, else 0: one instruction.
-// Kept: std's f32::max promises either of two equal numbers, so -0.0 might stay, which held_of makes 0.
+// Kept: tried as x.max(0.0): std promises either of two equal numbers, so -0.0 might stay, which held_of makes 0, and `returns` stays open (4c, 4d)
 fn from_zero(x: f32) -> f32
     ensures { result ≡ cond (Ieee.lt zero32 x) x zero32 }
 {
@@ -22,6 +23,7 @@ fn from_zero(x: f32) -> f32
 }
 
 // x within 0 and top, a NaN 0.
+// Kept: tried as y.min(top): `returns` stays open, since it asks that two equal floats above 0 are one (4c, 4d)
 fn held(x: f32, top: f32) -> f32
     requires { Ieee.lt zero32 top ≡ true }
     ensures { result ≡ held_of x top }
@@ -31,6 +33,8 @@ fn held(x: f32, top: f32) -> f32
 }
 
 // (v.clamp(0.0, 1.0) * 255.0 + 0.5) as u8
+// Kept: with floats::clamp and std's saturating_f32_to_u8 it took 6.9 ns a float for 2.1, and the bar is 1.65 of the Rust's 1.35 (4d)
+// Kept: rounded_byte shares held and whole_part with it; what is left of the two differs (2e)
 pub fn to_byte(v: f32) -> u8
     ensures { result ≡ byte_of v }
 {
@@ -39,6 +43,7 @@ pub fn to_byte(v: f32) -> u8
 }
 
 // x.round().clamp(0.0, 255.0) as u8: half of the whole part of 2x, and one.
+// Kept: with rounding::round, floats::clamp and std's saturating_f32_to_u8 it took 13.7 ns a float for 8.6, four a linear sample, whose bar is 0.55 (4d)
 pub fn rounded_byte(x: f32) -> u8
     ensures { result ≡ round_byte_of x }
 {

@@ -1,16 +1,17 @@
 -- The triangles left by clipping: how a loop runs over a fan, how many there are, and that a triangle wholly inside is left whole. Assumes nothing.
 use Prim.Native.Nat.{ℕ, zero, suc, ◌+◌, ◌-◌, ◌<◌, ◌≤◌}
 use mathlib.Core.Path.{◌≡◌, refl, sym, ◌∙◌}
-use mathlib.Core.Bool.{Bool, true, false, cond, ◌&&◌}
+use mathlib.Core.Bool.{Bool, true, false, cond}
 use mathlib.Core.List.{List, [], ◌∷◌}
 use lib.ListN.{length, get_or, drop, drop_of_length-le}
 use lib.Seq.{drop-cons}
 use native.Mathlib.Numerals.{add-one}
 use native.Mathlib.Decide.{dec_lt}
 use native.Mathlib.Omega.{arith}
+use Rattle.std.proofs.lemmas.Bool.{and_parts, false≢true}
 use Rattle.lists.specs.Lists.{between}
 use Rattle.lists.proofs.Turns.{between_more, between_done}
-use Rattle.lists.proofs.Choice.{was_true, true_false}
+use Rattle.lists.proofs.Choice.{was_true}
 use Rattle.vertices.specs.declared.Vertex.{Vertex}
 use Rattle.std.specs.List.{list_all}
 use Rattle.vertices.specs.declared.Plane.{Plane}
@@ -85,10 +86,6 @@ left_few a b c =
 
 -- ---- a triangle wholly inside
 
-both : (s t : Bool) → (s && t) ≡ true → (s ≡ true) × (t ≡ true)
-both true t e = (refl, e)
-both false t e = absurd (true_false (sym e))
-
 module _ (a b c : Vertex) where
   stays_in : (p : Plane) → inside p a ≡ true → inside p b ≡ true → inside p c ≡ true → clip_plane p (a ∷ b ∷ c ∷ []) ≡ a ∷ b ∷ c ∷ []
   unfolding clip_plane insides
@@ -98,16 +95,16 @@ module _ (a b c : Vertex) where
   unfolding clip_each
   kept_in [] ea eb ec = refl
   kept_in (p ∷ ps) ea eb ec =
-      let ha = both (inside p a) _ ea in
-      let hb = both (inside p b) _ eb in
-      let hc = both (inside p c) _ ec in
+      let ha = and_parts (inside p a) _ ea in
+      let hb = and_parts (inside p b) _ eb in
+      let hc = and_parts (inside p c) _ ec in
       rw (stays_in p ha.0 hb.0 hc.0) (kept_in ps ha.1 hb.1 hc.1)
 
   pub clipped_inside : all_inside a b c ≡ true → clipped (a ∷ b ∷ c ∷ []) ≡ a ∷ b ∷ c ∷ []
   unfolding all_inside clipped inside_frustum
   clipped_inside e =
-      let ha = was_true (inside_frustum a) e (λ z. true_false (sym z)) in
-      let hb = was_true (inside_frustum b) ha.1 (λ z. true_false (sym z)) in
+      let ha = was_true (inside_frustum a) e false≢true in
+      let hb = was_true (inside_frustum b) ha.1 false≢true in
       kept_in planes ha.0 hb.0 hb.1
 
   either_same : (t : Bool) {x y : List Triangle} → (t ≡ true → x ≡ y) → cond t x y ≡ y

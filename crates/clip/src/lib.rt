@@ -5,13 +5,14 @@ ghost use Rattle.std.specs.Prelude.{◌≡◌, ◌+◌, ◌%◌, ◌<◌, ◌≤
 ghost use Rattle.clip.specs.Clip.{insides, kept, crossing, walked, clip_plane, clipped, all_inside};
 
 use polygon::Polygon;
-use vertices::{Plane, Vertex};
+use vertices::{Plane, Triangle, Vertex};
 
+// Kept: `all` needs an array of the three corners or of references to them, and is no shorter. (3f)
 #[tactic(auto, unfolding(crate::specs::Clip::all_inside))]
-pub fn all_inside(a: Vertex, b: Vertex, c: Vertex) -> bool
-    ensures { result ≡ all_inside a b c }
+pub fn all_inside(t: Triangle) -> bool
+    ensures { result ≡ all_inside t.a t.b t.c }
 {
-    a.inside_frustum() && b.inside_frustum() && c.inside_frustum()
+    t.a.inside_frustum() && t.b.inside_frustum() && t.c.inside_frustum()
 }
 
 #[tactic(auto, unfolding(crate::specs::Clip::insides))]
@@ -64,11 +65,10 @@ fn walk_edges(polygon: &Polygon, plane: Plane, out: &mut Polygon)
 {
     out.clear();
     let corners = polygon.corners();
-    for i in 0..corners.len() {
-        let a = corners[i];
+    for (i, a) in corners.iter().enumerate() {
         let b = corners[next_corner(i, corners.len())];
-        keep_inside(out, a, plane);
-        add_crossing(out, a, b, plane);
+        keep_inside(out, *a, plane);
+        add_crossing(out, *a, b, plane);
     }
 }
 
@@ -103,14 +103,14 @@ fn clip_frustum(polygon: &mut Polygon, scratch: &mut Polygon)
 }
 
 // What clipping leaves of one triangle.
-pub fn clip_triangle(a: Vertex, b: Vertex, c: Vertex) -> Polygon
-    ensures { result ≡ clipped (a ∷ b ∷ c ∷ []) }
+pub fn clip_triangle(t: Triangle) -> Polygon
+    ensures { result ≡ clipped (t.a ∷ t.b ∷ t.c ∷ []) }
 {
     let mut polygon = Polygon::new();
     let mut scratch = Polygon::new();
-    polygon.push(a);
-    polygon.push(b);
-    polygon.push(c);
+    polygon.push(t.a);
+    polygon.push(t.b);
+    polygon.push(t.c);
     clip_frustum(&mut polygon, &mut scratch);
     polygon
 }

@@ -1,26 +1,22 @@
 // The colours of a block of four by four texels, DXT and ATC, and DXT1's alphas, which stand among them (texture.rs; DXT3 and DXT5 by 2026-14).
 #![tactic(auto)]
 
-ghost use Rattle.std.specs.Prelude.{◌≡◌, true, cond, ltb, ◌+◌, ◌≤◌, ◌<◌, [], length, get_or};
+ghost use Rattle.std.specs.Prelude.{◌≡◌, true, cond, ltb, ◌+◌, ◌≤◌, ◌<◌, [], get_or};
 ghost use Rattle.lists.specs.Lists.{tab};
+ghost use Rattle.texels.specs.Texels.{half};
 ghost use Rattle.alpha_blocks.specs.AlphaBlocks.{selector, word};
-ghost use Rattle.colour_blocks.specs.ColourBlocks.{mixed3, rgb555, dxt_palette, less_quarter3, atc_palette, chosen, dxt, atc, dxt1_alpha_of, dxt1_alpha};
+ghost use Rattle.colour_blocks.specs.ColourBlocks.{mixed3, dxt_palette, less_quarter3, atc_palette, chosen, dxt, atc, dxt1_alpha_of, dxt1_alpha};
 
 use alpha_blocks::*;
 use std::array;
 use texels::*;
 
 fn mix3(k: u32, n: u32, a: [u8; 3], b: [u8; 3]) -> [u8; 3]
+    // Kept: as alpha_blocks::mix. (5a)
     requires { (0 < n) × (n ≤ 8) × (k ≤ n) }
     ensures { result ≡ mixed3 k n a b }
 {
     array::from_fn(|i| mix(k, n, a[i], b[i]))
-}
-
-fn colour_555(c: u32) -> [u8; 3]
-    ensures { result ≡ rgb555 c }
-{
-    [expand::<5>(c / 1024), expand::<5>(c / 32), expand::<5>(c)]
 }
 
 // Whether there are four colours, and not three and black.
@@ -33,8 +29,8 @@ fn has_four(always: bool, c0: u32, c1: u32) -> bool
 fn dxt_palette(always: bool, c0: u32, c1: u32) -> [[u8; 3]; 4]
     ensures { result ≡ dxt_palette always c0 c1 }
 {
-    let e0 = colour_565(c0);
-    let e1 = colour_565(c1);
+    let e0 = colour::<6>(c0);
+    let e1 = colour::<6>(c1);
     if has_four(always, c0, c1) {
         [e0, e1, mix3(1, 3, e0, e1), mix3(2, 3, e0, e1)]
     } else {
@@ -52,8 +48,8 @@ fn lowered3(a: [u8; 3], b: [u8; 3]) -> [u8; 3]
 fn atc_palette(c0: u32, c1: u32) -> [[u8; 3]; 4]
     ensures { result ≡ atc_palette c0 c1 }
 {
-    let e0 = colour_555(c0);
-    let e1 = colour_565(c1);
+    let e0 = colour::<5>(c0);
+    let e1 = colour::<6>(c1);
     if c0 < 32768 {
         [e0, mix3(3, 8, e0, e1), mix3(5, 8, e0, e1), e1]
     } else {
@@ -61,11 +57,25 @@ fn atc_palette(c0: u32, c1: u32) -> [[u8; 3]; 4]
     }
 }
 
-fn four_bytes(s: &[u8], at: usize) -> u32
-    requires { at + 4 ≤ length s.now }
-    ensures { result ≡ word s.now at }
-{
-    u32::from_le_bytes([s[at], s[at + 1], s[at + 2], s[at + 3]])
+// The eight bytes of a block's colours: two endpoints, then sixteen selectors of two bits.
+#[derive(Clone, Copy, Debug, PartialEq, Eq, Hash)]
+struct Colours {
+    c0: u32,
+    c1: u32,
+    bits: u32,
+}
+
+impl From<&[u8; 8]> for Colours {
+    ghost from_gives = { λ block r. (r.c0 ≡ half block.now 0) × (r.c1 ≡ half block.now 2) × (r.bits ≡ word block.now 4) };
+
+    fn from(block: &[u8; 8]) -> Self {
+        let [a, b, c, d, e, f, g, h] = *block;
+        Colours {
+            c0: u32::from(u16::from_le_bytes([a, b])),
+            c1: u32::from(u16::from_le_bytes([c, d])),
+            bits: u32::from_le_bytes([e, f, g, h]),
+        }
+    }
 }
 
 fn chosen(palette: [[u8; 3]; 4], bits: u32) -> [[u8; 3]; 16]
@@ -79,20 +89,22 @@ fn chosen(palette: [[u8; 3]; 4], bits: u32) -> [[u8; 3]; 16]
     )
 }
 
-pub fn dxt_rgb_block(always: bool, s: &[u8], at: usize) -> [[u8; 3]; 16]
-    requires { at + 8 ≤ length s.now }
-    ensures { result ≡ dxt always s.now at }
+// Kept: two lines each, the palette and the choice from it; one function would take the palette's maker as a closure. (2b)
+#[tactic(auto, unfolding(crate::specs::ColourBlocks::dxt))]
+pub fn dxt_rgb_block(always: bool, block: &[u8; 8]) -> [[u8; 3]; 16]
+    ensures { result ≡ dxt always block.now 0 }
 {
-    let palette = dxt_palette(always, half(s, at), half(s, at + 2));
-    chosen(palette, four_bytes(s, at + 4))
+    let Colours { c0, c1, bits } = Colours::from(block);
+    chosen(dxt_palette(always, c0, c1), bits)
 }
 
-pub fn atc_rgb_block(s: &[u8], at: usize) -> [[u8; 3]; 16]
-    requires { at + 8 ≤ length s.now }
-    ensures { result ≡ atc s.now at }
+// Kept: as dxt_rgb_block. (2b)
+#[tactic(auto, unfolding(crate::specs::ColourBlocks::atc))]
+pub fn atc_rgb_block(block: &[u8; 8]) -> [[u8; 3]; 16]
+    ensures { result ≡ atc block.now 0 }
 {
-    let palette = atc_palette(half(s, at), half(s, at + 2));
-    chosen(palette, four_bytes(s, at + 4))
+    let Colours { c0, c1, bits } = Colours::from(block);
+    chosen(atc_palette(c0, c1), bits)
 }
 
 #[tactic(auto, unfolding(crate::specs::ColourBlocks::dxt1_alpha_of))]
@@ -108,9 +120,10 @@ fn dxt1_alphas(c0: u32, c1: u32, bits: u32) -> [u8; 16]
     array::from_fn(|i| dxt1_alpha(c0, c1, selector::<2>(bits, i)))
 }
 
-pub fn dxt1_alpha_block(s: &[u8], at: usize) -> [u8; 16]
-    requires { at + 8 ≤ length s.now }
-    ensures { result ≡ dxt1_alpha s.now at }
+#[tactic(auto, unfolding(crate::specs::ColourBlocks::dxt1_alpha))]
+pub fn dxt1_alpha_block(block: &[u8; 8]) -> [u8; 16]
+    ensures { result ≡ dxt1_alpha block.now 0 }
 {
-    dxt1_alphas(half(s, at), half(s, at + 2), four_bytes(s, at + 4))
+    let Colours { c0, c1, bits } = Colours::from(block);
+    dxt1_alphas(c0, c1, bits)
 }

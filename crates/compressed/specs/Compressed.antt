@@ -3,7 +3,7 @@ use Rattle.std.specs.Prelude.{Bool, true, false, cond, List, [], ℕ, ◌*◌, e
 use Rattle.consts.specs.Codes.{GL_PALETTE4_RGB8_OES, GL_PALETTE4_RGBA8_OES, GL_PALETTE4_R5_G6_B5_OES, GL_PALETTE4_RGBA4_OES, GL_PALETTE4_RGB5_A1_OES, GL_PALETTE8_RGB8_OES, GL_PALETTE8_RGBA8_OES, GL_PALETTE8_R5_G6_B5_OES, GL_PALETTE8_RGBA4_OES, GL_PALETTE8_RGB5_A1_OES, GL_ATC_RGB_AMD, GL_ATC_RGBA_EXPLICIT_ALPHA_AMD, GL_ATC_RGBA_INTERPOLATED_ALPHA_AMD, GL_COMPRESSED_RGB_S3TC_DXT1_EXT, GL_COMPRESSED_RGBA_S3TC_DXT1_EXT, GL_COMPRESSED_RGBA_S3TC_DXT3_EXT, GL_COMPRESSED_RGBA_S3TC_DXT5_EXT}
 use Rattle.answers.specs.declared.Refusal.{Refusal}
 use Rattle.texels.specs.Image.{side_above}
-use Rattle.texels.specs.declared.Texel.TheVariants.{Rgb, Rgba, Rgb565, Rgba4444, Rgba5551}
+use Rattle.texels.specs.declared.TexelFormat.TheVariants.{Rgb, Rgba, Rgb565, Rgba4444, Rgba5551}
 use Rattle.blocks.specs.declared.Block.TheVariants.{Dxt1Rgb, Dxt1Rgba, Dxt3, Dxt5, AtcRgb, AtcExplicit, AtcInterpolated}
 use Rattle.blocks.specs.Blocks.{block_bytes, block_texel}
 use Rattle.block_images.specs.Walk.{blocks_over, block_image}

@@ -1,59 +1,54 @@
 // Compressed images: the size query and the decode (texture.rs, compressed_image_size and decode_compressed_to_rgba).
 #![tactic(auto)]
 
-ghost use Rattle.std.specs.Prelude.{◌≡◌, ◌*◌, ◌≤◌, length};
+ghost use Rattle.std.specs.Prelude.{◌≡◌, ◌*◌, ◌≤◌, length, ok_or};
 ghost use Rattle.answers.specs.Results.{answer_number};
-ghost use Rattle.compressed.specs.Compressed.{palette_of, compressed_of, size_of, size_check, sized_bytes, size_answered, compressed_image, known_check, known_left, empty_check, compressed_check, compressed_left};
+ghost use Rattle.answers.specs.declared.Refusal.TheVariants.{Format};
+ghost use Rattle.compressed.specs.Compressed.{compressed_of, size_of, size_check, sized_bytes, size_answered, compressed_image, known_check, known_left, empty_check, compressed_check, compressed_left};
 
 use answers::Refusal;
 use block_images::{block_count, decode_blocks};
 use blocks::Block;
 use consts::*;
 use palette_images::{IndexBits, decode_paletted};
-use texels::{Sides, Texel};
+use texels::{Sides, TexelFormat};
 
 // What a compressed format's code stands for: blocks, or a palette, by the bits of an index and the kind of an entry.
 #[derive(Clone, Copy, Debug, PartialEq, Eq, Hash)]
 pub enum Compressed {
     Blocks(Block),
-    Palette(IndexBits, Texel),
+    Palette(IndexBits, TexelFormat),
 }
 
-#[tactic(auto, unfolding(crate::specs::Compressed::palette_of))]
-fn palette_of(format: u32) -> Option<Compressed>
-    ensures { result ≡ palette_of format }
-{
-    let (bits, entry) = match format {
-        GL_PALETTE4_RGB8_OES => (IndexBits::Four, Texel::Rgb),
-        GL_PALETTE4_RGBA8_OES => (IndexBits::Four, Texel::Rgba),
-        GL_PALETTE4_R5_G6_B5_OES => (IndexBits::Four, Texel::Rgb565),
-        GL_PALETTE4_RGBA4_OES => (IndexBits::Four, Texel::Rgba4444),
-        GL_PALETTE4_RGB5_A1_OES => (IndexBits::Four, Texel::Rgba5551),
-        GL_PALETTE8_RGB8_OES => (IndexBits::Eight, Texel::Rgb),
-        GL_PALETTE8_RGBA8_OES => (IndexBits::Eight, Texel::Rgba),
-        GL_PALETTE8_R5_G6_B5_OES => (IndexBits::Eight, Texel::Rgb565),
-        GL_PALETTE8_RGBA4_OES => (IndexBits::Eight, Texel::Rgba4444),
-        GL_PALETTE8_RGB5_A1_OES => (IndexBits::Eight, Texel::Rgba5551),
-        _ => return None,
-    };
-    Some(Compressed::Palette(bits, entry))
-}
+impl TryFrom<u32> for Compressed {
+    type Error = Refusal;
 
-#[tactic(auto, unfolding(crate::specs::Compressed::compressed_of))]
-pub fn compressed_of(format: u32) -> Option<Compressed>
-    ensures { result ≡ compressed_of format }
-{
-    let block = match format {
-        GL_COMPRESSED_RGB_S3TC_DXT1_EXT => Block::Dxt1Rgb,
-        GL_COMPRESSED_RGBA_S3TC_DXT1_EXT => Block::Dxt1Rgba,
-        GL_COMPRESSED_RGBA_S3TC_DXT3_EXT => Block::Dxt3,
-        GL_COMPRESSED_RGBA_S3TC_DXT5_EXT => Block::Dxt5,
-        GL_ATC_RGB_AMD => Block::AtcRgb,
-        GL_ATC_RGBA_EXPLICIT_ALPHA_AMD => Block::AtcExplicit,
-        GL_ATC_RGBA_INTERPOLATED_ALPHA_AMD => Block::AtcInterpolated,
-        _ => return palette_of(format),
-    };
-    Some(Compressed::Blocks(block))
+    ghost try_from_gives = { λ code r. r ≡ ok_or (compressed_of code) Format };
+
+    // Kept: each type reads its own codes, as the trait asks: one impl for a type. (2c)
+    #[tactic(auto, using(std::proofs::lemmas::Bool::Decides::nat_tests), unfolding(crate::specs::Compressed::compressed_of, crate::specs::Compressed::palette_of))]
+    fn try_from(code: u32) -> Result<Self, Refusal> {
+        Ok(match code {
+            GL_COMPRESSED_RGB_S3TC_DXT1_EXT => Compressed::Blocks(Block::Dxt1Rgb),
+            GL_COMPRESSED_RGBA_S3TC_DXT1_EXT => Compressed::Blocks(Block::Dxt1Rgba),
+            GL_COMPRESSED_RGBA_S3TC_DXT3_EXT => Compressed::Blocks(Block::Dxt3),
+            GL_COMPRESSED_RGBA_S3TC_DXT5_EXT => Compressed::Blocks(Block::Dxt5),
+            GL_ATC_RGB_AMD => Compressed::Blocks(Block::AtcRgb),
+            GL_ATC_RGBA_EXPLICIT_ALPHA_AMD => Compressed::Blocks(Block::AtcExplicit),
+            GL_ATC_RGBA_INTERPOLATED_ALPHA_AMD => Compressed::Blocks(Block::AtcInterpolated),
+            GL_PALETTE4_RGB8_OES => Compressed::Palette(IndexBits::Four, TexelFormat::Rgb),
+            GL_PALETTE4_RGBA8_OES => Compressed::Palette(IndexBits::Four, TexelFormat::Rgba),
+            GL_PALETTE4_R5_G6_B5_OES => Compressed::Palette(IndexBits::Four, TexelFormat::Rgb565),
+            GL_PALETTE4_RGBA4_OES => Compressed::Palette(IndexBits::Four, TexelFormat::Rgba4444),
+            GL_PALETTE4_RGB5_A1_OES => Compressed::Palette(IndexBits::Four, TexelFormat::Rgba5551),
+            GL_PALETTE8_RGB8_OES => Compressed::Palette(IndexBits::Eight, TexelFormat::Rgb),
+            GL_PALETTE8_RGBA8_OES => Compressed::Palette(IndexBits::Eight, TexelFormat::Rgba),
+            GL_PALETTE8_R5_G6_B5_OES => Compressed::Palette(IndexBits::Eight, TexelFormat::Rgb565),
+            GL_PALETTE8_RGBA4_OES => Compressed::Palette(IndexBits::Eight, TexelFormat::Rgba4444),
+            GL_PALETTE8_RGB5_A1_OES => Compressed::Palette(IndexBits::Eight, TexelFormat::Rgba5551),
+            _ => return Err(Refusal::Format),
+        })
+    }
 }
 
 impl Compressed {
@@ -94,12 +89,13 @@ impl Compressed {
 }
 
 // Size query.
+// Kept: the guest's own numbers. A type for the format or the sides would ask of callers what the query tells them by 14 and 9. (1m, 5c)
 pub fn compressed_image_size(format: u32, width: u32, height: u32) -> Result<usize, Refusal>
     ensures number { answer_number result ≡ size_check (compressed_of format) width height }
     ensures bytes { sized_bytes result ≡ size_answered (compressed_of format) width height }
 {
     let sides = Sides::new(width, height)?;
-    let f = compressed_of(format).ok_or(Refusal::Format)?;
+    let f = Compressed::try_from(format)?;
     Ok(f.size(sides))
 }
 
@@ -116,6 +112,7 @@ fn decode_empty(out: &[u8]) -> Result<(), Refusal>
 }
 
 // Decode compressed.
+// Kept: the guest's own numbers, as in the size query. (1m, 5c)
 pub fn decode_compressed_to_rgba(
     s: &[u8],
     width: u32,
@@ -130,7 +127,5 @@ pub fn decode_compressed_to_rgba(
     if width == 0 || height == 0 {
         return decode_empty(out);
     }
-    compressed_of(format)
-        .ok_or(Refusal::Format)?
-        .decode(s, sides, out)
+    Compressed::try_from(format)?.decode(s, sides, out)
 }

@@ -1,5 +1,6 @@
 pub mod Wraps
+pub mod Masks
 pub mod Sides
-pub mod Quick
 pub mod Steps
+pub mod Quick
 pub mod Small

@@ -6,6 +6,7 @@ use lib.Dec.{T, eqb}
 use lib.IntN.{ℤ, pos, negsuc, neg_ℤ, ◌+ℤ◌, ◌-ℤ◌}
 use mir.Syntax.{w64}
 use mir.Val.{SFits, to_z, of_z}
+use Rattle.std.proofs.lemmas.Bool.{true≢false, false≢true}
 use Rattle.std.proofs.lemmas.Int.{ints, to_z-of_z}
 use lib.Ieee.{Float, nan, inf, fin, up, down, lt, eq, neg, add, sub, round, of_bits, of_int, in_float, to_unsigned, to_signed, binary32}
 use lib.Ieee.Fits.{down_pos}
@@ -15,7 +16,6 @@ use native.Mathlib.Nat.{div-lt_iff_lt-mul, mul-one, mul_right_comm, mul-div_canc
 use native.Mathlib.Numerals.{add-one}
 use native.Mathlib.Omega.{arith}
 use borrow.Author.Tests.{ltb-true, eqb-true, eqb-false, le-leb, lt-ltb}
-use Rattle.lists.proofs.Choice.{true_false}
 use Rattle.floats.proofs.Cut.{two_to}
 use Rattle.levels.specs.declared.Wrap.{Wrap}
 use Rattle.std.specs.Int.{saturate_signed}
@@ -23,7 +23,9 @@ use Rattle.rounding.specs.Rounding.{up_div, whole_by, floor_of, next_of, Part}
 use Rattle.rounding.proofs.Next.{next_is}
 use Rattle.rounding.proofs.Near.{big, less, Summed, summed, summed_to}
 use Rattle.rounding.proofs.Kept.{up_is, up_exact, neg_round}
-use Rattle.coords.specs.Coords.{Few, Floored, wrap_texel, axis_at}
+use Rattle.floats.specs.Num.{◌⊖◌, ◌⊗◌, half32, of_nat32}
+use Rattle.coords.specs.Coords.{Few, Floored, wrap_texel, centred, low_of, first_of, second_of, weight_of, axis_of}
+use Rattle.coords.proofs.Steps.{Before}
 
 under : (m : ℕ) (e : ℤ) → lt (fin false m e) (two_to 22) ≡ true → m * up e < 2 ^ 22 * down e
 unfolding lt
@@ -31,10 +33,10 @@ under m e h = omega (arith, ltb-true (m * up e * 1) (1 * 2 ^ 22 * down e) h)
 
 pub few_part : (x : Float) → Few x → Part 22 x
 unfolding lt of_bits
-few_part nan f = absurd (true_false (sym f.above))
-few_part (inf true) f = absurd (true_false (sym f.above))
-few_part (inf false) f = absurd (true_false (sym f.below))
-few_part (fin true m e) f = absurd (true_false (sym f.above))
+few_part nan f = absurd (true≢false (sym f.above))
+few_part (inf true) f = absurd (true≢false (sym f.above))
+few_part (inf false) f = absurd (true≢false (sym f.below))
+few_part (fin true m e) f = absurd (true≢false (sym f.above))
 few_part (fin false m e) f = under m e f.below
 
 -- ---- a whole float as an i64
@@ -42,7 +44,7 @@ signed_above : (v : Float) (q : ℕ) → HasValue v false q 1 → q < 2 ^ 24 →
 unfolding to_signed
 signed_above nan q h k = absurd h
 signed_above (inf s) q h k = absurd h
-signed_above (fin true m e) q h k = absurd (true_false h.0)
+signed_above (fin true m e) q h k = absurd (true≢false h.0)
 signed_above (fin false m e) q h k =
     let d : m * up e / down e ≡ q = ap (λ (z : ℕ). z / down e) (sym (mul-one (m * up e)) ∙ h.1) ∙ mul-div_cancel q (down_pos e) in
     ap pos (omega arith)
@@ -55,7 +57,7 @@ signed_below : (v : Float) (k : ℕ) → HasValue v true (suc k) 1 → k < 2 ^ 2
 unfolding to_signed
 signed_below nan k h l = absurd h
 signed_below (inf s) k h l = absurd h
-signed_below (fin false m e) k h l = absurd (true_false (sym h.0))
+signed_below (fin false m e) k h l = absurd (true≢false (sym h.0))
 signed_below (fin true m e) k h l =
     let d : m * up e / down e ≡ suc k = ap (λ (z : ℕ). z / down e) (sym (mul-one (m * up e)) ∙ h.1) ∙ mul-div_cancel (suc k) (down_pos e) in
     negs (min (m * up e / down e) (2 ^ 63)) k (omega arith)
@@ -66,10 +68,10 @@ floor_few q h = omega arith
 
 pub floored_above : (x : Float) (n : ℕ) → Few x → n ≡ to_unsigned 22 x → Floored x (pos n) (of_int binary32 (pos n))
 unfolding lt of_bits floor_of whole_by to_unsigned of_int
-floored_above nan n f e = absurd (true_false (sym f.above))
-floored_above (inf true) n f e = absurd (true_false (sym f.above))
-floored_above (inf false) n f e = absurd (true_false (sym f.below))
-floored_above (fin true m d) n f e = absurd (true_false (sym f.above))
+floored_above nan n f e = absurd (true≢false (sym f.above))
+floored_above (inf true) n f e = absurd (true≢false (sym f.above))
+floored_above (inf false) n f e = absurd (true≢false (sym f.below))
+floored_above (fin true m d) n f e = absurd (true≢false (sym f.above))
 floored_above (fin false m d) n f e =
     let q = m * up d / down d in
     let h : q < 2 ^ 22 = (div-lt_iff_lt-mul (down_pos d)).1 (under m d f.below) in
@@ -102,7 +104,7 @@ module _ (m : ℕ) (e : ℤ) (h : lt (fin false m e) (two_to 22) ≡ true) where
   unfolding eq
   same_value nan n p q = absurd p
   same_value (inf s) n p q = absurd p
-  same_value (fin true j d) n p q = absurd (true_false p.0)
+  same_value (fin true j d) n p q = absurd (true≢false p.0)
   same_value (fin false j d) n p q =
       eq_of_mul-eq-mul_right (down d) (down_pos d) (m * up e) (n * down e)
       (eqb-true (m * up e * down d) (j * up d * down e) (first (eqb (m * up e * down d) (j * up d * down e)) q)
@@ -116,7 +118,7 @@ module _ (m : ℕ) (e : ℤ) (h : lt (fin false m e) (two_to 22) ≡ true) where
   unfolding eq
   other_value nan n p q r = absurd p
   other_value (inf s) n p q r = absurd p
-  other_value (fin true j d) n p q r = absurd (true_false p.0)
+  other_value (fin true j d) n p q r = absurd (true≢false p.0)
   other_value (fin false j d) n p q r =
       eqb-false (m * up e * down d) (j * up d * down e) (first (eqb (m * up e * down d) (j * up d * down e)) q)
       (ap (λ (z : ℕ). z * down d) r ∙ mul_right_comm n (down e) (down d) ∙ ap (λ (z : ℕ). z * down e) (sym (sym (mul-one (j * up d)) ∙ p.1)))
@@ -177,10 +179,10 @@ floored_up m e r h u =
 
 pub below_part : (y : Float) (n : ℕ) → Few y → n ≡ to_unsigned 22 y → eq y (near y) ≡ false → (n < 2 ^ 22) × Floored (neg y) (negsuc n) (neg (of_int binary32 (pos (n + 1))))
 unfolding lt of_bits to_unsigned q
-below_part nan n f e t = absurd (true_false (sym f.above))
-below_part (inf true) n f e t = absurd (true_false (sym f.above))
-below_part (inf false) n f e t = absurd (true_false (sym f.below))
-below_part (fin true m d) n f e t = absurd (true_false (sym f.above))
+below_part nan n f e t = absurd (true≢false (sym f.above))
+below_part (inf true) n f e t = absurd (true≢false (sym f.above))
+below_part (inf false) n f e t = absurd (true≢false (sym f.below))
+below_part (fin true m d) n f e t = absurd (true≢false (sym f.above))
 below_part (fin false m d) n f e t =
     let h : m * up d / down d < 2 ^ 22 = q_few m d f.below in
     let s : n ≡ m * up d / down d = omega arith in
@@ -194,10 +196,10 @@ some_whole a (suc c) d h l = omega arith
 pub below_whole : (y : Float) (n : ℕ) → Few y → n ≡ to_unsigned 22 y → eq y (near y) ≡ true
     → (1 ≤ n) × (n - 1 < 2 ^ 22) × Floored (neg y) (negsuc (n - 1)) (neg (of_int binary32 (pos (n - 1 + 1))))
 unfolding lt of_bits to_unsigned q
-below_whole nan n f e t = absurd (true_false (sym f.above))
-below_whole (inf true) n f e t = absurd (true_false (sym f.above))
-below_whole (inf false) n f e t = absurd (true_false (sym f.below))
-below_whole (fin true m d) n f e t = absurd (true_false (sym f.above))
+below_whole nan n f e t = absurd (true≢false (sym f.above))
+below_whole (inf true) n f e t = absurd (true≢false (sym f.above))
+below_whole (inf false) n f e t = absurd (true≢false (sym f.below))
+below_whole (fin true m d) n f e t = absurd (true≢false (sym f.above))
 below_whole (fin false m d) n f e t =
     let h : m * up d / down d < 2 ^ 22 = q_few m d f.below in
     let s : n ≡ m * up d / down d = omega arith in
@@ -222,9 +224,9 @@ small_float n h = subst T (sym (le-leb n (2 ^ 24) (omega arith))) tt
 -- x below 0 has -x above 0
 pub minus_above : (x : Float) → lt x (of_bits binary32 0) ≡ true → lt (of_bits binary32 0) (neg x) ≡ true
 unfolding lt neg of_bits
-minus_above nan h = absurd (true_false (sym h))
+minus_above nan h = absurd (false≢true h)
 minus_above (inf true) h = refl
-minus_above (inf false) h = absurd (true_false (sym h))
+minus_above (inf false) h = absurd (false≢true h)
 minus_above (fin false m e) h = absurd (omega (arith, ltb-true (m * up e * 1) (0 * 1 * down e) h))
 minus_above (fin true m e) h = lt-ltb (0 * 1 * down e) (m * up e * 1) (omega (arith, ltb-true 0 (m * up e * 1 + 0 * 1 * down e) h))
 
@@ -240,12 +242,23 @@ module _ (x v : Float) (r : ℤ) (f : SFits w64 r) where
       ap (λ (y : ℤ). to_z w64 (of_z w64 y)) (ap (λ (y : ℤ). negsuc 0 -ℤ y) (to_z-of_z w64 r f ∙ e) ∙ d) ∙ to_z-of_z w64 (negsuc n) (record { sfits = omega arith }) in
       subst (λ (y : ℤ). Floored x y v) (sym k) h
 
--- the axis from the floor's whole number and one more
-pub far : (w : Wrap) (x : Float) (size : ℕ) (z n : ℤ) (low : Float) (a b : ℕ) → Floored x z low → SFits w64 z → SFits w64 n → a ≡ wrap_texel w (to_z w64 (of_z w64 z)) size
-    → n ≡ saturate_signed w64 (to_z w64 (of_z w64 z) +ℤ pos 1) → b ≡ wrap_texel w (to_z w64 (of_z w64 n)) size → record { first = a; second = b; weight = sub binary32 x low } ≡ axis_at w x size
-unfolding axis_at
-far w x size z n low a b h f g p q r =
-    let i : to_z w64 (of_z w64 z) ≡ to_signed 63 (floor_of x) = to_z-of_z w64 z f ∙ h.whole in
-    let j : to_z w64 (of_z w64 n) ≡ next_of 63 (to_signed 63 (floor_of x)) =
-    to_z-of_z w64 n g ∙ q ∙ ap (λ (y : ℤ). saturate_signed w64 (y +ℤ pos 1)) (to_z-of_z w64 z f) ∙ next_is w64 z f ∙ ap (next_of 63) h.whole in
-    rw (p ∙ ap (λ (y : ℤ). wrap_texel w y size) i, r ∙ ap (λ (y : ℤ). wrap_texel w y size) j, h.low)
+-- ---- one more than a whole number that fits
+module _ (z : ℤ) (f : SFits w64 z) where
+  pub next_last : of_z w64 z ≡ 2 ^ 63 - 1 → z ≡ next_of 63 z
+  unfolding next_of
+  next_last e = let l : z ≡ pos (2 ^ 63 - 1) = sym (to_z-of_z w64 z f) ∙ ap (to_z w64) e in rw l
+
+  pub next_fits : (n : ℤ) → SFits w64 n → n ≡ saturate_signed w64 (to_z w64 (of_z w64 z) +ℤ pos 1) → to_z w64 (of_z w64 n) ≡ next_of 63 z
+  next_fits n g q = to_z-of_z w64 n g ∙ q ∙ ap (λ (y : ℤ). saturate_signed w64 (y +ℤ pos 1)) (to_z-of_z w64 z f) ∙ next_is w64 z f
+
+pub before : (z : ℤ) → SFits w64 z → (of_z w64 z ≡ 2 ^ 63 - 1 → ⊥) → Before z
+before (pos n) f h = omega (arith, f.sfits, λ (e : n ≡ 2 ^ 63 - 1). h (ap (λ (k : ℕ). of_z w64 (pos k)) e))
+before (negsuc n) f h = 0
+
+-- the axis from a floor
+pub axis_is : (w : Wrap) (v l : Float) (size : ℕ) (z : ℤ) (low : Float) (a b : ℕ) → l ≡ of_nat32 size → Floored (v ⊗ l ⊖ half32) z low → SFits w64 z → a ≡ wrap_texel w (to_z w64 (of_z w64 z)) size
+    → b ≡ wrap_texel w (next_of 63 (to_z w64 (of_z w64 z))) size → record { first = a; second = b; weight = v ⊗ l ⊖ half32 ⊖ low } ≡ axis_of w v size
+unfolding axis_of first_of second_of weight_of low_of centred
+axis_is w v l size z low a b e h f p q =
+    let i : to_z w64 (of_z w64 z) ≡ to_signed 63 (floor_of (v ⊗ l ⊖ half32)) = to_z-of_z w64 z f ∙ h.whole in
+    rw (p ∙ ap (λ (y : ℤ). wrap_texel w y size) i, q ∙ ap (λ (y : ℤ). wrap_texel w (next_of 63 y) size) i, h.low, e)

@@ -9,9 +9,10 @@ use lib.Ieee.Bits.{of_bits-to_bits}
 use lib.Ieee.Exact.{HasValue}
 use lib.Ieee.Fits.{round-fits}
 use native.Mathlib.Omega.{arith}
-use Rattle.lists.proofs.Choice.{was_true, true_false}
+use Rattle.std.proofs.lemmas.Float.{not_nan_f32_bits}
+use Rattle.std.proofs.lemmas.Bool.{false≢true}
+use Rattle.lists.proofs.Choice.{was_true}
 use Rattle.floats.specs.Num.{zero32, of_nat32}
-use Rattle.floats.proofs.Signs.{pattern_number}
 use Rattle.rounding.proofs.Near.{big, less}
 use Rattle.rounding.proofs.LastBits.{bits}
 use Rattle.coords.specs.Coords.{Few, small_of}
@@ -19,7 +20,7 @@ use Rattle.coords.proofs.Quick.{minus_above}
 
 -- ---- 2 ^ 23 and a side
 pub side_pattern : (size : ℕ) → size ≤ 1024 → T (not (nan_bits binary32 (1258291200 + size)))
-side_pattern size h = pattern_number (1258291200 + size) (omega arith)
+side_pattern size h = not_nan_f32_bits (1258291200 + size) (omega arith)
 
 big_is : of_bits binary32 0x4b00_0000 ≡ big
 unfolding of_bits
@@ -62,5 +63,5 @@ small_above x s a =
 pub small_below : (x : Float) → small_of x ≡ true → lt zero32 x ≡ false → Few (neg x)
 unfolding small_of
 small_below x s a =
-    let w = was_true (lt x zero32) (ap (λ (b : Bool). cond b (lt x (of_bits binary32 0x4a80_0000)) (cond (lt x zero32) (lt (neg x) (of_bits binary32 0x4a80_0000)) false)) (sym a) ∙ s) (λ e. true_false (sym e)) in
+    let w = was_true (lt x zero32) (ap (λ (b : Bool). cond b (lt x (of_bits binary32 0x4a80_0000)) (cond (lt x zero32) (lt (neg x) (of_bits binary32 0x4a80_0000)) false)) (sym a) ∙ s) false≢true in
     record { above = minus_above x w.0; below = w.1 }

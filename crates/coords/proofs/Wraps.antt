@@ -9,10 +9,10 @@ use Rattle.levels.specs.declared.Wrap.TheVariants.{Repeat, ClampToEdge}
 use Rattle.coords.specs.Coords.{rem_of, edge_of, wrap_texel}
 
 -- ---- what std's methods give
-rem_is : (z : ℤ) (size : ℕ) → nat_abs (int_rem_euclid z (pos size)) ≡ rem_of z size
+euclid_is : (z : ℤ) (size : ℕ) → nat_abs (int_rem_euclid z (pos size)) ≡ rem_of z size
 unfolding rem_of
-rem_is (pos n) size = refl
-rem_is (negsuc n) size = refl
+euclid_is (pos n) size = refl
+euclid_is (negsuc n) size = refl
 
 clamp_is : (z : ℤ) (size : ℕ) → nat_abs (int_max (pos 0) (int_min z (pos (size - 1)))) ≡ edge_of z size
 unfolding edge_of
@@ -26,7 +26,7 @@ module _ (w : Wrap) (z s r : ℤ) (size : ℕ) (f : SFits w64 z) (g : SFits w64 
   pub repeated : w ≡ Repeat → r ≡ int_rem_euclid (to_z w64 (of_z w64 z)) (to_z w64 (of_z w64 s)) → nat_abs (to_z w64 (of_z w64 r)) ≡ wrap_texel w z size
   unfolding wrap_texel
   repeated i j =
-      ap nat_abs (to_z-of_z w64 r h ∙ j ∙ ap₂ int_rem_euclid (to_z-of_z w64 z f) (to_z-of_z w64 s g ∙ e)) ∙ rem_is z size ∙ rw i
+      ap nat_abs (to_z-of_z w64 r h ∙ j ∙ ap₂ int_rem_euclid (to_z-of_z w64 z f) (to_z-of_z w64 s g ∙ e)) ∙ euclid_is z size ∙ rw i
 
   pub clamped : 0 < size → size < 2 ^ 32 → w ≡ ClampToEdge → r ≡ int_max (pos 0) (int_min (to_z w64 (of_z w64 z)) (to_z w64 (of_z w64 (to_z w64 (of_z w64 s) -ℤ pos 1)))) → nat_abs (to_z w64 (of_z w64 r)) ≡ wrap_texel w z size
   unfolding wrap_texel
@@ -36,10 +36,10 @@ module _ (w : Wrap) (z s r : ℤ) (size : ℕ) (f : SFits w64 z) (g : SFits w64 
       ap nat_abs (to_z-of_z w64 r h ∙ j ∙ ap₂ (λ (a b : ℤ). int_max (pos 0) (int_min a b)) (to_z-of_z w64 z f) top) ∙ clamp_is z size ∙ rw i
 
 -- ---- for a reader: `rem_of` is the Euclidean remainder. It is below the side, and -1 - n and it differ by a multiple of the side.
-pub rem_below : (z : ℤ) (size : ℕ) → 0 < size → rem_of z size < size
+pub rest_below : (z : ℤ) (size : ℕ) → 0 < size → rem_of z size < size
 unfolding rem_of
-rem_below (pos n) size h = mod-lt n h
-rem_below (negsuc n) size h = omega arith
+rest_below (pos n) size h = mod-lt n h
+rest_below (negsuc n) size h = omega arith
 
 pub rem_multiple : (n size : ℕ) → 0 < size → suc n + rem_of (negsuc n) size ≡ suc (n / size) * size
 unfolding rem_of
@@ -56,7 +56,7 @@ edge_below (negsuc n) size h = h
 
 pub wrap_below : (w : Wrap) (z : ℤ) (size : ℕ) → 0 < size → wrap_texel w z size < size
 unfolding wrap_texel
-wrap_below Repeat z size h = rem_below z size h
+wrap_below Repeat z size h = rest_below z size h
 wrap_below ClampToEdge z size h = edge_below z size h
 
 -- as a caller has it

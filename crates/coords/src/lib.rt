@@ -1,37 +1,31 @@
 // Texel indices along one side of a level.
 #![tactic(auto)]
 
-ghost use Rattle.std.specs.Prelude.{◌≡◌, true, ◌+◌, ◌≤◌, ◌<◌, pos, negsuc};
+ghost use Rattle.std.specs.Prelude.{◌≡◌, true, ◌+◌, ◌≤◌, ◌<◌, negsuc};
 ghost use Rattle.std.specs.Float.Ieee as Ieee;
 ghost use Rattle.floats.specs.Num.{of_nat32};
-ghost use Rattle.rounding.specs.Rounding.{floor_of, next_of};
-ghost use Rattle.coords.specs.Coords.{Few, Floored, small_of, rem_of, wrap_texel, edge_coord, wrap_coord, centred, axis_at, axis_of};
+ghost use Rattle.rounding.specs.Rounding.{next_of};
+ghost use Rattle.coords.specs.Coords.{Few, Floored, wrap_texel, wrap_coord, axis_of};
 
 use levels::Wrap;
 
 // The two texels of a linear sample on one axis, and the weight of the second.
-#[derive(Clone, Copy)]
+#[derive(Clone, Copy, Debug, PartialEq)]
 pub struct Axis {
     pub first: u32,
     pub second: u32,
     pub weight: f32,
 }
 
-// The axes along a level's width and its height.
-#[derive(Clone, Copy)]
-pub struct Axes {
-    pub x: Axis,
-    pub y: Axis,
-}
-
 // The floor of a float: as a whole number, and as a float.
-#[derive(Clone, Copy)]
+#[derive(Clone, Copy, Debug, PartialEq)]
 struct Floor {
     whole: i64,
     low: f32,
 }
 
 // n of the floor -1 - n of -y.
+// Kept: see floored. (4d)
 fn below_part(y: f32) -> u32
     requires { Few y }
     ensures { (result < 4194304) × Floored (Ieee.neg y) (negsuc result) (Ieee.neg (of_nat32 (result + 1))) }
@@ -43,6 +37,20 @@ fn below_part(y: f32) -> u32
     n
 }
 
+// Zeros, and what is no nearer to zero than 2^22.
+#[cold]
+#[inline(never)]
+fn far_floor(x: f32) -> Floor
+    ensures { Floored x result.whole result.low }
+{
+    let low = rounding::floor(x);
+    Floor {
+        whole: std::num::saturating_f32_to_i64(low),
+        low,
+    }
+}
+
+// Kept: by std's floor and saturating_f32_to_i64 alone nearest misses its bar of 0.5: 0.70. (4d)
 fn floored(x: f32) -> Floor
     ensures { Floored x result.whole result.low }
 {
@@ -65,216 +73,79 @@ fn floored(x: f32) -> Floor
             };
         }
     }
-    let low = rounding::floor(x);
-    Floor {
-        whole: std::num::saturating_f32_to_i64(low),
-        low,
-    }
+    far_floor(x)
 }
 
-fn wrap_texel(v: i64, size: u32, wrap: Wrap) -> u32
-    requires { 0 < size }
-    ensures { result ≡ wrap_texel wrap v size }
-{
-    let side = i64::from(size);
-    match wrap {
-        Wrap::Repeat => v.rem_euclid(side) as u32,
-        Wrap::ClampToEdge => v.clamp(0, side - 1) as u32,
-    }
+// A side of a level: how many texels it has, and what lies past its ends.
+#[derive(Clone, Copy, Debug, PartialEq, Eq, Hash)]
+pub struct Side {
+    pub size: u32,
+    pub wrap: Wrap,
+    pub ghost some: { 0 < size },
+    pub ghost few: { size ≤ 1024 },
 }
 
-fn edge_coord(c: f32, size: u32) -> u32
-    requires { (0 < size) × (size ≤ 1024) }
-    ensures { result ≡ edge_coord c size }
-{
-    if c < 0.0 {
-        return 0;
+impl Side {
+    // The size as a float, by its bits: a conversion would wait for whatever its register held before.
+    fn length(self) -> f32
+        ensures { result ≡ of_nat32 self.size }
+    {
+        f32::from_bits(1258291200 + self.size) - 8388608.0
     }
-    if c >= size as f32 {
-        return size - 1;
-    }
-    std::num::saturating_f32_to_u32(c)
-}
 
-// A side as a float, by its bits: a conversion would wait for whatever its register held before.
-fn side(size: u32) -> f32
-    requires { size ≤ 1024 }
-    ensures { result ≡ of_nat32 size }
-{
-    f32::from_bits(1258291200 + size) - 8388608.0
-}
-
-// x.floor().rem_euclid(size)
-fn repeat_coord(x: f32, size: u32) -> u32
-    requires { 0 < size }
-    ensures { result ≡ rem_of (Ieee.to_signed 63 (floor_of x)) size }
-{
-    if x > 0.0 {
-        if x < 4194304.0 {
-            return rounding::whole_part::<22>(x) % size;
-        }
-    }
-    if x < 0.0 {
-        let y = -x;
-        if y < 4194304.0 {
-            return size - 1 - below_part(y) % size;
-        }
-    }
-    wrap_texel(floored(x).whole, size, Wrap::Repeat)
-}
-
-pub fn wrap_coord(v: f32, size: u32, wrap: Wrap) -> u32
-    requires { (0 < size) × (size ≤ 1024) }
-    ensures { result ≡ wrap_coord wrap v size }
-{
-    let scaled = v * side(size);
-    match wrap {
-        Wrap::Repeat => repeat_coord(scaled, size),
-        Wrap::ClampToEdge => edge_coord(floored(scaled).low, size),
-    }
-}
-
-// The texel of n, and of -1 - n.
-fn above_texel(n: u32, size: u32, wrap: Wrap) -> u32
-    requires { 0 < size }
-    ensures { result ≡ wrap_texel wrap (pos n) size }
-{
-    match wrap {
-        Wrap::Repeat => n % size,
-        Wrap::ClampToEdge => {
-            if n < size {
-                return n;
+    // The texel of a whole number. The bits of one are its remainder by a power of two, without a division.
+    fn texel(self, v: i64) -> u32
+        ensures { result ≡ wrap_texel self.wrap v self.size }
+    {
+        let size = i64::from(self.size);
+        match self.wrap {
+            Wrap::Repeat => {
+                if self.size.is_power_of_two() {
+                    return (v.cast_unsigned() & u64::from(self.size - 1)) as u32;
+                }
+                v.rem_euclid(size) as u32
             }
-            size - 1
+            Wrap::ClampToEdge => v.clamp(0, size - 1) as u32,
         }
     }
-}
 
-fn below_texel(n: u32, size: u32, wrap: Wrap) -> u32
-    requires { 0 < size }
-    ensures { result ≡ wrap_texel wrap (negsuc n) size }
-{
-    match wrap {
-        Wrap::Repeat => size - 1 - n % size,
-        Wrap::ClampToEdge => 0,
-    }
-}
-
-// The texel after `first`, which is that of n: one step, and at the end the first or the last.
-fn above_next(n: u32, first: u32, size: u32, wrap: Wrap) -> u32
-    requires { (0 < size) × (size ≤ 1024) × (n < 4194304) × (first ≡ wrap_texel wrap (pos n) size) }
-    ensures { result ≡ wrap_texel wrap (next_of 63 (pos n)) size }
-{
-    if first + 1 < size {
-        return first + 1;
-    }
-    match wrap {
-        Wrap::Repeat => 0,
-        Wrap::ClampToEdge => size - 1,
-    }
-}
-
-// The same of -1 - n.
-fn below_next(n: u32, first: u32, size: u32, wrap: Wrap) -> u32
-    requires { (0 < size) × (size ≤ 1024) × (first ≡ wrap_texel wrap (negsuc n) size) }
-    ensures { result ≡ wrap_texel wrap (next_of 63 (negsuc n)) size }
-{
-    match wrap {
-        Wrap::Repeat => {
-            if first + 1 < size {
-                return first + 1;
+    // The texel of v + 1, from that of v: where the side repeats, one step.
+    fn next(self, v: i64, first: u32) -> u32
+        requires { first ≡ wrap_texel self.wrap v self.size }
+        ensures { result ≡ wrap_texel self.wrap (next_of 63 v) self.size }
+    {
+        match self.wrap {
+            Wrap::Repeat => {
+                if v == i64::MAX {
+                    return first;
+                }
+                if first + 1 < self.size {
+                    return first + 1;
+                }
+                0
             }
-            0
-        }
-        Wrap::ClampToEdge => 0,
-    }
-}
-
-fn above_axis(x: f32, size: u32, wrap: Wrap) -> Axis
-    requires { (0 < size) × (size ≤ 1024) × Few x }
-    ensures { result ≡ axis_at wrap x size }
-{
-    let n = rounding::whole_part::<22>(x);
-    let first = above_texel(n, size, wrap);
-    Axis {
-        first,
-        second: above_next(n, first, size, wrap),
-        weight: x - n as f32,
-    }
-}
-
-fn below_axis(x: f32, size: u32, wrap: Wrap) -> Axis
-    requires { (0 < size) × (size ≤ 1024) × Few (Ieee.neg x) }
-    ensures { result ≡ axis_at wrap x size }
-{
-    let n = below_part(-x);
-    let first = below_texel(n, size, wrap);
-    Axis {
-        first,
-        second: below_next(n, first, size, wrap),
-        weight: x - -((n + 1) as f32),
-    }
-}
-
-// Whether x is no zero and nearer to it than 2^22.
-fn is_small(x: f32) -> bool
-    ensures { result ≡ small_of x }
-{
-    if x > 0.0 {
-        return x < 4194304.0;
-    }
-    if x < 0.0 {
-        return -x < 4194304.0;
-    }
-    false
-}
-
-fn small_axis(x: f32, size: u32, wrap: Wrap) -> Axis
-    requires { (0 < size) × (size ≤ 1024) × (small_of x ≡ true) }
-    ensures { result ≡ axis_at wrap x size }
-{
-    if x > 0.0 {
-        return above_axis(x, size, wrap);
-    }
-    below_axis(x, size, wrap)
-}
-
-fn far_axis(x: f32, size: u32, wrap: Wrap) -> Axis
-    requires { 0 < size }
-    ensures { result ≡ axis_at wrap x size }
-{
-    let f = floored(x);
-    Axis {
-        first: wrap_texel(f.whole, size, wrap),
-        second: wrap_texel(f.whole.saturating_add(1), size, wrap),
-        weight: x - f.low,
-    }
-}
-
-fn centre(v: f32, size: u32) -> f32
-    requires { size ≤ 1024 }
-    ensures { result ≡ centred v size }
-{
-    v * side(size) - 0.5
-}
-
-// Both axes of a linear sample of a level.
-pub fn linear_axes(s: f32, t: f32, width: u32, height: u32, wrap_s: Wrap, wrap_t: Wrap) -> Axes
-    requires { (0 < width) × (width ≤ 1024) × (0 < height) × (height ≤ 1024) }
-    ensures { (result.x ≡ axis_of wrap_s s width) × (result.y ≡ axis_of wrap_t t height) }
-{
-    let x = centre(s, width);
-    let y = centre(t, height);
-    if is_small(x) {
-        if is_small(y) {
-            return Axes {
-                x: small_axis(x, width, wrap_s),
-                y: small_axis(y, height, wrap_t),
-            };
+            Wrap::ClampToEdge => self.texel(v.saturating_add(1)),
         }
     }
-    Axes {
-        x: far_axis(x, width, wrap_s),
-        y: far_axis(y, height, wrap_t),
+
+    // The index that a nearest sample takes.
+    pub fn coord(self, v: f32) -> u32
+        ensures { result ≡ wrap_coord self.wrap v self.size }
+    {
+        self.texel(floored(v * self.length()).whole)
+    }
+
+    // The texels of a linear sample.
+    pub fn axis(self, v: f32) -> Axis
+        ensures { result ≡ axis_of self.wrap v self.size }
+    {
+        let x = v * self.length() - 0.5;
+        let floor = floored(x);
+        let first = self.texel(floor.whole);
+        Axis {
+            first,
+            second: self.next(floor.whole, first),
+            weight: x - floor.low,
+        }
     }
 }

@@ -13,7 +13,7 @@ use lib.Ieee.Exact.{odd_sign}
 use lib.Ieee.Fits.{up_pos}
 use lib.Ieee.Positive.{positive, positive_of_value}
 use borrow.Author.Tests.{lt-ltb, le-ltb, lt-leb, ne_eqb, ltb-true, ltb-false, leb-false}
-use Rattle.lists.proofs.Choice.{true_false}
+use Rattle.std.proofs.lemmas.Bool.{false≢true}
 use Rattle.floats.specs.Num.{finite_of}
 use Rattle.coverage.specs.Coverage.{usable}
 
@@ -21,8 +21,8 @@ use Rattle.coverage.specs.Coverage.{usable}
 pub no_nan : (x : Float) → is_nan x ≡ true → false ≡ usable x
 unfolding is_nan usable le lt eq of_bits finite_of
 no_nan nan h = refl
-no_nan (inf s) h = absurd (true_false (sym h))
-no_nan (fin s m e) h = absurd (true_false (sym h))
+no_nan (inf s) h = absurd (false≢true h)
+no_nan (fin s m e) h = absurd (false≢true h)
 
 no_infinity : (s : Bool) → usable (inf s) ≡ false
 unfolding usable le lt eq of_bits finite_of

@@ -1,8 +1,7 @@
 // A pixel's weights, whether a triangle covers it, and what lies between the triangle's corners there (raster.rs, raster_clipped).
 #![tactic(auto)]
 
-ghost use Rattle.std.specs.Prelude.{◌≡◌, ◌<◌};
-ghost use Rattle.gradients.specs.Gradients.{sum_of, per_corner};
+ghost use Rattle.std.specs.Prelude.{◌≡◌, ◌≤◌};
 ghost use Rattle.coverage.specs.Coverage.{centre_of, edge_of, weights_of, covered_by, depth_at, inv_w_at, usable, shares_of, color_of};
 
 use gradients::{PerCorner, TriangleDerivatives};
@@ -12,7 +11,7 @@ use setup::Raster;
 use vertices::Vertex;
 
 // A triangle ready to fill: its corners on the screen, its slopes, and the vertices that it interpolates.
-#[derive(Clone, Copy)]
+#[derive(Clone, Copy, Debug, PartialEq)]
 pub struct Primitive {
     pub raster: Raster,
     pub derivatives: TriangleDerivatives,
@@ -21,8 +20,9 @@ pub struct Primitive {
     pub c: Vertex,
 }
 
+// Up to 2^24 an f32 is every n.
 fn centre(n: u32) -> f32
-    requires { n < 4096 }
+    requires { n ≤ 16777216 }
     ensures { result ≡ centre_of n }
 {
     n as f32 + 0.5
@@ -36,7 +36,7 @@ fn edge(p: ScreenVertex, q: ScreenVertex, sx: f32, sy: f32, inv_area: f32) -> f3
 }
 
 pub fn weights_at(t: Raster, px: u32, py: u32) -> PerCorner
-    requires { (px < 4096) × (py < 4096) }
+    requires { (px ≤ 16777216) × (py ≤ 16777216) }
     ensures { result ≡ weights_of t px py }
 {
     let sx = centre(px);
@@ -52,19 +52,11 @@ pub fn weights_at(t: Raster, px: u32, py: u32) -> PerCorner
 
 const EDGE_EPS: f32 = -1e-6;
 
+// A weight that is no number covers too.
 pub fn is_covered(w: PerCorner) -> bool
     ensures { result ≡ covered_by w }
 {
-    if w.a < EDGE_EPS {
-        return false;
-    }
-    if w.b < EDGE_EPS {
-        return false;
-    }
-    if w.c < EDGE_EPS {
-        return false;
-    }
-    true
+    !(w.a < EDGE_EPS) && !(w.b < EDGE_EPS) && !(w.c < EDGE_EPS)
 }
 
 #[tactic(auto, unfolding(crate::specs::Coverage::depth_at))]
@@ -104,10 +96,7 @@ pub fn is_usable(iw: f32) -> bool
     }
     // Above 0 and finite, by the bits.
     let bits = f32::to_bits(iw);
-    if bits == 0 {
-        return false;
-    }
-    bits < 0x7f80_0000
+    bits != 0 && bits < 0x7f80_0000
 }
 
 // The weights with perspective; rec is 1 over the interpolated 1/w.
@@ -122,22 +111,24 @@ pub fn shares_of(t: Raster, w: PerCorner, rec: f32) -> PerCorner
     }
 }
 
-fn between(p: PerCorner, a: f32, b: f32, c: f32) -> f32
-    ensures { result ≡ sum_of p (per_corner a b c) }
-{
-    gradients::weighted_sum(p, PerCorner { a, b, c })
-}
-
 // The last corner's colour, or the colour between the three.
 pub fn color_at(smooth: bool, p: PerCorner, a: [f32; 4], b: [f32; 4], c: [f32; 4]) -> Rgba
     ensures { result ≡ color_of smooth p a b c }
 {
     if smooth {
+        let between = |i: usize| {
+            let at = PerCorner {
+                a: a[i],
+                b: b[i],
+                c: c[i],
+            };
+            gradients::weighted_sum(p, at)
+        };
         return Rgba {
-            r: between(p, a[0], b[0], c[0]),
-            g: between(p, a[1], b[1], c[1]),
-            b: between(p, a[2], b[2], c[2]),
-            a: between(p, a[3], b[3], c[3]),
+            r: between(0),
+            g: between(1),
+            b: between(2),
+            a: between(3),
         };
     }
     Rgba {

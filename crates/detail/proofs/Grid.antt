@@ -1,5 +1,6 @@
 -- Every f64 of 1 or more is a multiple of 2 ^ -52, so a table's entry is the first f64 that reaches its power of two as soon as
 -- the multiple before it does not. Assumes nothing.
+use Rattle.std.proofs.lemmas.Nat.{mul-pow}
 use Rattle.std.proofs.Common.{◌≡◌, ℕ, zero, suc, ◌+◌, ◌-◌, ◌*◌, ◌/◌, ◌%◌, ◌^◌, ◌<◌, ◌≤◌, Bool, true, false, ◌&&◌, T, eqb, ltb, leb, List, length, ℤ, pos, negsuc, sym, ap, ◌∙◌, subst, subst₂, le_trans, lt_of_lt_of_le, lt_of_le_of_lt, mul-le-mul_right, mul_assoc, lt_of_mul-lt-mul_right, mul-lt-mul_of_pos_right, one-mul, lt_of_not-le, le-div_iff_mul-le, mul-one, mul_right_comm, not-le_of_lt, arith, ltb→lt, leb→le, pow_pos, pow_mono, pow-add}
 use native.Mathlib.Decide.{dec_lt}
 use native.Mathlib.Nat.{pow-le-pow_left, pow-lt-pow_left, one-le-pow}
@@ -7,7 +8,7 @@ use lib.Ieee.{Float, nan, inf, fin, up, down, binary64, lt, fits}
 use lib.Ieee.Fits.{and_l, and_r}
 use lib.Ieee.Positive.{num, den, positive, den_pos}
 use Rattle.detail.specs.Steps.{Entry, Thresholds}
-use Rattle.detail.proofs.Powers.{mul_pow}
+use Rattle.std.proofs.lemmas.Nat.{mul-pow}
 use Rattle.detail.proofs.Table.{every, at}
 use Rattle.detail.proofs.Fractions.{below}
 
@@ -61,7 +62,7 @@ module _ (i : ℕ) (q m : Float) (y : ℕ) (is : num q * 2 ^ 52 ≡ y * den q) (
   above_one_is : ((num m * 2 ^ 52 - 1) / den m) ^ 128 < 2 ^ i * (2 ^ 52) ^ 128 → num q ^ 128 < 2 ^ i * den q ^ 128
   above_one_is h =
       lt_of_mul-lt-mul_right ((2 ^ 52) ^ 128)
-      (subst₂ ◌<◌ (sym (mul_pow y (den q) 128) ∙ ap (λ (z : ℕ). z ^ 128) (sym is) ∙ mul_pow (num q) (2 ^ 52) 128) (mul_right_comm (2 ^ i) ((2 ^ 52) ^ 128) (den q ^ 128))
+      (subst₂ ◌<◌ (sym (mul-pow y (den q) 128) ∙ ap (λ (z : ℕ). z ^ 128) (sym is) ∙ mul-pow (num q) (2 ^ 52) 128) (mul_right_comm (2 ^ i) ((2 ^ 52) ^ 128) (den q ^ 128))
       (mul-lt-mul_of_pos_right (y_power h) (one-le-pow 128 (den q) (den_pos q))))
 
 under_one : (i : ℕ) (q : Float) → num q < den q → num q ^ 128 < 2 ^ i * den q ^ 128

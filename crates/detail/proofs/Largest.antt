@@ -1,4 +1,5 @@
 -- The largest n with 2 ^ n ≤ q ^ 128: it is `steps_of`, and it follows from that of q's significand. Assumes nothing.
+use Rattle.std.proofs.lemmas.Nat.{mul-pow}
 use Rattle.std.proofs.Common.{◌≡◌, ℕ, suc, ◌+◌, ◌-◌, ◌*◌, ◌/◌, ◌^◌, ◌<◌, ◌≤◌, false, sym, refl, ap, ◌∙◌, subst, subst₂, lt_of_lt_of_le, mul-le-mul_right, mul_assoc, div-lt_iff_lt-mul, add-mul, lt_of_mul-lt-mul_right, mul-lt-mul_of_pos_right, lt_of_not-le, le-div_iff_mul-le, mul-one, mul_right_comm, not-le_of_lt, le_of_mul-le-mul_right, arith, pow_pos, pow_mono, pow-add}
 use native.Mathlib.Nat.{eq_of_mul-eq-mul_right, one-le-pow, pow-le-pow_left}
 use lib.Ieee.{Float, size}
@@ -6,7 +7,8 @@ use lib.Ieee.Digits.{size-lt, size-le, size_reaches}
 use lib.Ieee.Exact.{HasValue}
 use lib.Ieee.Positive.{num, den, den_pos, value→cross}
 use Rattle.detail.specs.Steps.{Largest, steps_of}
-use Rattle.detail.proofs.Powers.{mul_pow, pow_pow}
+use Rattle.std.proofs.lemmas.Nat.{mul-pow}
+use Rattle.detail.proofs.Powers.{pow_pow}
 
 -- ---- the largest n is the one
 module _ (q : Float) (n : ℕ) (l : Largest q n) where
@@ -61,8 +63,8 @@ scale_lt P Q D X M N d X0 D0 p q h =
 module _ (q m : Float) (e : ℕ) (times : num q * den m ≡ num m * 2 ^ e * den q) where
   cross : num q ^ 128 * den m ^ 128 ≡ num m ^ 128 * 2 ^ (e * 128) * den q ^ 128
   cross =
-      sym (mul_pow (num q) (den m) 128) ∙ ap (λ (z : ℕ). z ^ 128) times ∙ mul_pow (num m * 2 ^ e) (den q) 128
-      ∙ ap (λ (z : ℕ). z * den q ^ 128) (mul_pow (num m) (2 ^ e) 128 ∙ ap (λ (z : ℕ). num m ^ 128 * z) (pow_pow 2 e 128))
+      sym (mul-pow (num q) (den m) 128) ∙ ap (λ (z : ℕ). z ^ 128) times ∙ mul-pow (num m * 2 ^ e) (den q) 128
+      ∙ ap (λ (z : ℕ). z * den q ^ 128) (mul-pow (num m) (2 ^ e) 128 ∙ ap (λ (z : ℕ). num m ^ 128 * z) (pow_pow 2 e 128))
 
   power : (i n : ℕ) → n ≡ i + e * 128 → 2 ^ n ≡ 2 ^ i * 2 ^ (e * 128)
   power i n h = ap (λ (z : ℕ). 2 ^ z) h ∙ pow-add 2 i (e * 128)

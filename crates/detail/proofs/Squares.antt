@@ -1,10 +1,11 @@
 -- Which values are infinite, and a NaN in a sum of squares. Assumes nothing.
+use Rattle.std.proofs.lemmas.Bool.{true≢false}
 use Rattle.std.proofs.Common.{◌≡◌, Bool, true, false, cond, T, sym, refl, subst}
 use lib.Ieee.{Float, nan, inf, fin, is_nan, eq, ne, lt, add, mul, binary64}
 use lib.Ieee.Compare.{differs_from_itself}
 use Rattle.std.specs.Float.{float_is_infinite}
 use Rattle.floats.specs.Num.{max_of}
-use Rattle.lists.proofs.Choice.{yes, no, true_false}
+use Rattle.lists.proofs.Choice.{yes, no}
 use Rattle.detail.specs.Pairs.{infinite, pair_of}
 
 -- std's word for an infinite float is ours
@@ -27,9 +28,9 @@ squares nan nan p q = refl
 squares nan (fin s m e) p q = refl
 squares (fin s m e) nan p q = add_nan (mul binary64 (fin s m e) (fin s m e))
 squares (fin s m e) (fin t n d) p q = refl
-squares nan (inf t) p q = absurd (true_false q)
-squares (fin s m e) (inf t) p q = absurd (true_false q)
-squares (inf s) b p q = absurd (true_false p)
+squares nan (inf t) p q = absurd (true≢false q)
+squares (fin s m e) (inf t) p q = absurd (true≢false q)
+squares (inf s) b p q = absurd (true≢false p)
 
 pub first_infinite : (a b : Float) → infinite a ≡ true → inf false ≡ pair_of a b
 unfolding pair_of

@@ -24,8 +24,6 @@ fn pair(a: f32, b: f32) -> f64
     x * x + y * y
 }
 
-// Kept: std's f64::max promises either of two equal numbers, so either zero, and max_of is the first; one function for this and
-// floats::max would need a trait over f32 and f64 with its two impls, which is longer than both.
 fn larger(a: f64, b: f64) -> f64
     ensures { result ≡ max_of a b }
 {
@@ -176,56 +174,63 @@ const THRESHOLDS: [f64; 128] = [
     1.9891988469672666,
 ];
 
-// A place in the table from the first twelve digits of a significand: at most the right one, and at most two below it.
-fn guess(k: u64) -> usize
-    requires { k < 4096 }
-    ensures { result < 128 }
-{
-    let a = k * 128 + k * (4096 - k) / 96;
-    if a < 2800 {
-        return 0;
+// A significand, from 1 up to 2, and its first twelve digits.
+#[derive(Clone, Copy, Debug, PartialEq)]
+struct Significand {
+    m: f64,
+    k: u64,
+    ghost positive: { T (positive m) },
+    ghost at_least_one: { den m ≤ num m },
+    ghost below_two: { num m < 2 * den m },
+    ghost twelve: { k < 4096 },
+}
+
+impl Significand {
+    // A place in the table, by the digits: at most the right one, and at most two below it. What it is used for holds of any place.
+    fn guess(self) -> u64 {
+        let a = self.k * 128 + self.k * (4096 - self.k) / 96;
+        if a < 2800 {
+            return 0;
+        }
+        (a - 2800) / 4096
     }
-    ((a - 2800) / 4096 % 128) as usize
 }
 
 // The thresholds, for a draw to make once and lend.
-#[derive(Clone, Copy)]
+#[derive(Clone, Copy, Debug, PartialEq)]
 pub struct LevelTable {
-    thresholds: [f64; 128],
-    ghost are_thresholds: { Thresholds thresholds },
+    pub thresholds: [f64; 128],
+    pub ghost are_thresholds: { Thresholds thresholds },
 }
 
 impl LevelTable {
-    pub fn new() -> Self {
+    // Kept: no Default, since nothing would call it. (4m)
+    pub fn new() -> Self
+        ensures { Thresholds result.thresholds }
+    {
         LevelTable {
             thresholds: THRESHOLDS,
         }
     }
 
     // Where to begin: the guess, if m reaches its threshold.
-    fn start(&self, m: f64, k: u64) -> usize
-        requires positive { T (positive m) }
-        requires at_least_one { den m ≤ num m }
-        requires exponent { k < 4096 }
-        ensures { (result < 128) × Reached m result }
+    fn start(&self, s: Significand) -> usize
+        ensures { (result < 128) × Reached s.m result }
     {
-        let i = guess(k);
-        if m < self.thresholds[i] {
+        let i = (s.guess() % 128) as usize;
+        if s.m < self.thresholds[i] {
             return 0;
         }
         i
     }
 
-    // The largest i with 2^i <= m^128, for a significand m of 1 to 2.
-    fn step_of(&self, m: f64, k: u64) -> usize
-        requires positive { T (positive m) }
-        requires at_least_one { den m ≤ num m }
-        requires below_two { num m < 2 * den m }
-        requires exponent { k < 4096 }
-        ensures { (result < 128) × Largest m result }
+    // The largest i with 2^i <= m^128.
+    // Kept: partition_point would take seven steps for the one to three from the guess, and a proof of the entries' order. (6f)
+    fn step_of(&self, s: Significand) -> usize
+        ensures { (result < 128) × Largest s.m result }
     {
-        for i in self.start(m, k)..127 {
-            if m < self.thresholds[i + 1] {
+        for i in self.start(s)..127 {
+            if s.m < self.thresholds[i + 1] {
                 return i;
             }
         }
@@ -241,8 +246,11 @@ impl LevelTable {
         let bits = f64::to_bits(q);
         let exponent = bits / 4503599627370496 - 1023;
         let digits = bits % 4503599627370496;
-        let m = f64::from_bits(digits + 4607182418800017408);
-        exponent * 128 + self.step_of(m, digits / 1099511627776) as u64
+        let s = Significand {
+            m: f64::from_bits(digits + 4607182418800017408),
+            k: digits / 1099511627776,
+        };
+        exponent * 128 + self.step_of(s) as u64
     }
 
     // n for a q above 1, cut to 256 times the top level.

@@ -1,2 +1,3 @@
+pub mod Cut
 pub mod Passed
 pub mod Unstaged

@@ -1,5 +1,4 @@
 -- Which way a draw takes. Assumes nothing.
-use Rattle.std.specs.Prelude.{Some, None}
 use mathlib.Core.Path.{◌≡◌, refl, ◌∙◌}
 use mathlib.Core.Bool.{Bool, true, false, cond}
 use mathlib.Core.List.{List}
@@ -10,19 +9,17 @@ use lib.Ieee.{Float}
 use borrow.Author.Tests.{eqb-true}
 use Rattle.lists.proofs.Choice.{no}
 use Rattle.answers.specs.declared.Refusal.{Refusal}
-use Rattle.scissor.specs.declared.PixelBox.{PixelBox}
 use Rattle.answers.specs.Numbers.{refusal_number}
 use Rattle.answers.proofs.Answered.{refused_test}
 use Rattle.levels.specs.declared.Texture.{Texture}
 use Rattle.settings.specs.declared.TextureStage.{TextureStage}
 use Rattle.settings.specs.declared.PipelineState.{PipelineState}
-use Rattle.scissor.specs.Scissor.{bounds_of}
 use Rattle.vertices.specs.declared.Vertex.{Vertex}
-use Rattle.screen.specs.Screen.{viewport_draws, view_of}
+use Rattle.screen.specs.Screen.{viewport_draws}
 use Rattle.frames.specs.State.{refused}
 use Rattle.frames.specs.Gather.{Drawn}
 use Rattle.pixels.specs.Way.{Drawing, drawing, drawn_to}
-use Rattle.raster.specs.Fill.{left_drawn, drawn_of}
+use Rattle.raster.specs.Fill.{drawn_of}
 use Rattle.draw_checks.specs.Checks.{early_check, late_check}
 use Rattle.draw.specs.Draw.{draw_args, bound_to, draw_check, draw_passed, outcome, drew_all, draw_of}
 
@@ -34,21 +31,11 @@ zero_first n m e = go (eqb n 0) refl
     go true h = eqb-true n 0 h
     go false h = no m h refl ∙ e
 
--- ---- past the checks
-
+-- a viewport without a side draws nothing
 module _ (store : List ℕ) (d : Drawing) (width height : ℕ) (a b c : Vertex) (s : Drawn) where
   pub no_viewport : viewport_draws d.state.viewport ≡ false → s ≡ drawn_of store d width height a b c s
   unfolding drawn_of
   no_viewport e = rw e
-
-  pub no_pixels : viewport_draws d.state.viewport ≡ true → bounds_of width height d.state.scissor ≡ None → s ≡ drawn_of store d width height a b c s
-  unfolding drawn_of
-  no_pixels e f = rw (e, f)
-
-  pub is_in_box : {box : PixelBox} → viewport_draws d.state.viewport ≡ true → bounds_of width height d.state.scissor ≡ Some box
-      → left_drawn store d (view_of d.state.viewport height) box width a b c s ≡ drawn_of store d width height a b c s
-  unfolding drawn_of
-  is_in_box e f = rw (e, f)
 
 -- ---- the three ways of a call
 

@@ -3,11 +3,11 @@
 
 pub mod plain;
 
-ghost use Rattle.std.specs.Prelude.{◌≡◌, true, ◌<◌, length};
+ghost use Rattle.std.specs.Prelude.{◌≡◌, true, length};
 ghost use Rattle.scissor.specs.Check.{target_fits};
 ghost use Rattle.pixels.specs.Way.{drawn_to};
 ghost use Rattle.raster.specs.Fill.{drawn_of};
-ghost use Rattle.draw_checks.specs.Checks.{stages_fit, early_check};
+ghost use Rattle.draw_checks.specs.Checks.{stages_fit};
 ghost use Rattle.draw.specs.Draw.{bound_at, bound_to, draw_args, draw_of, outcome, answer_of};
 
 use answers::Refusal;
@@ -17,46 +17,48 @@ use pixels::Staged;
 use raster::{Draw, Region};
 use settings::{PipelineState, TextureStage};
 use stages::Stages;
-use vertices::Vertex;
+use std::array;
+use vertices::Triangle;
 
 // The record of the unit that stage i names, if the stage is in use.
-fn bound_at(textures: [Texture; 4], stages: [TextureStage; 4], count: usize, i: usize) -> Texture
-    requires { (stages_fit stages count ≡ true) × (i < 4) }
-    ensures { result ≡ bound_at stages count textures i }
+fn bound_at(units: &[Texture; 4], stages: &[TextureStage], i: usize) -> Texture
+    requires { stages_fit stages.now (length stages.now) ≡ true }
+    ensures { result ≡ bound_at stages.now (length stages.now) units.now i }
 {
+    let count = stages.len();
     if i >= count {
         return Texture::new();
     }
     let stage = stages[i];
     let unit = stage.unit as usize;
-    textures[unit]
+    units[unit]
 }
 
-// The record that each stage reads.
-fn bind(textures: [Texture; 4], stages: [TextureStage; 4], count: usize) -> [Texture; 4]
-    requires { stages_fit stages count ≡ true }
-    ensures { result ≡ bound_to stages count textures }
+// The record that each stage reads. stages: those in use.
+fn bind(units: &[Texture; 4], stages: &[TextureStage]) -> [Texture; 4]
+    requires { stages_fit stages.now (length stages.now) ≡ true }
+    ensures { result ≡ bound_to stages.now (length stages.now) units.now }
 {
-    let first = bound_at(textures, stages, count, 0);
-    let second = bound_at(textures, stages, count, 1);
-    let third = bound_at(textures, stages, count, 2);
-    let fourth = bound_at(textures, stages, count, 3);
+    let first = bound_at(units, stages, 0);
+    let second = bound_at(units, stages, 1);
+    let third = bound_at(units, stages, 2);
+    let fourth = bound_at(units, stages, 3);
     [first, second, third, fourth]
 }
 
 // The draw past its checks.
+// Kept: the target is made of these in raster::draw_left, of the box that is found here (5c, 6c)
+#[tactic(auto, unfolding(raster::specs::Fill::drawn_of))]
 fn draw_checked<D: Draw>(
     colors: &mut [u8],
     depths: &mut [f32],
     width: u32,
     height: u32,
     paint: &D,
-    a: Vertex,
-    b: Vertex,
-    c: Vertex,
+    t: Triangle,
 ) -> usize
     requires { target_fits width height (length colors.old) (length depths.old) ≡ true }
-    ensures { drawn_to colors.new depths.new result ≡ drawn_of (D.store paint.now) (D.drawing paint.now) width height a b c (drawn_to colors.old depths.old 0) }
+    ensures { drawn_to colors.new depths.new result ≡ drawn_of (D.store paint.now) (D.drawing paint.now) width height t.a t.b t.c (drawn_to colors.old depths.old 0) }
 {
     let state = paint.state();
     let viewport = state.viewport;
@@ -70,43 +72,14 @@ fn draw_checked<D: Draw>(
     let view = screen::view_of(viewport, height);
     let width = width as usize;
     let within = Region { pixels, width };
-    raster::draw_left(colors, depths, paint, view, within, a, b, c)
-}
-
-// Past the checks before 8. units: the four units' records.
-fn draw_named(
-    colors: &mut [u8],
-    depths: &mut [f32],
-    width: u32,
-    height: u32,
-    store: &[u8],
-    units: [Texture; 4],
-    state: PipelineState,
-    stages: [TextureStage; 4],
-    count: usize,
-    a: Vertex,
-    b: Vertex,
-    c: Vertex,
-) -> Result<usize, Refusal>
-    requires { early_check width height (length colors.old) (length depths.old) state stages count ≡ 0 }
-    ensures { outcome (answer_of result) colors.new depths.new ≡ draw_of store.now width height (draw_args state stages count a b c) units colors.old depths.old }
-{
-    let textures = bind(units, stages, count);
-    draw_checks::check_late(store.len(), count, textures, a, b, c)?;
-    let table = LevelTable::new();
-    let stages = Stages {
-        store,
-        table: &table,
-        stages,
-        count,
-        textures: &textures,
-    };
-    let paint = Staged { state, stages };
-    Ok(draw_checked(colors, depths, width, height, &paint, a, b, c))
+    raster::draw_left(colors, depths, paint, view, within, t)
 }
 
 // Draws one triangle on a target of width by height pixels, and answers the number of pixel writes, which its guest is billed for. units: the four units' texture records, with their texels in the store.
 // The first count stages are in use.
+// Kept: 1 refuses lengths that do not fit the sides, so a target of the four would say nothing of them yet (5c, 6c)
+// Kept: check 6 refuses a count above four, so that before it the count is no length of the four (6a)
+// Kept: a draw without a stage makes and hands on no record; one function over both would be handed four of nothing (2c, 7b)
 pub fn draw_triangle(
     colors: &mut [u8],
     depths: &mut [f32],
@@ -117,11 +90,9 @@ pub fn draw_triangle(
     state: PipelineState,
     stages: [TextureStage; 4],
     count: usize,
-    a: Vertex,
-    b: Vertex,
-    c: Vertex,
+    t: Triangle,
 ) -> Result<usize, Refusal>
-    ensures { outcome (answer_of result) colors.new depths.new ≡ draw_of store.now width height (draw_args state stages count a b c) units colors.old depths.old }
+    ensures { outcome (answer_of result) colors.new depths.new ≡ draw_of store.now width height (draw_args state stages count t.a t.b t.c) units colors.old depths.old }
 {
     draw_checks::check_early(
         width,
@@ -132,7 +103,16 @@ pub fn draw_triangle(
         stages,
         count,
     )?;
-    draw_named(
-        colors, depths, width, height, store, units, state, stages, count, a, b, c,
-    )
+    let textures = bind(&units, &stages[..count]);
+    draw_checks::check_late(&textures[..count], store.len(), t)?;
+    let table = LevelTable::new();
+    let stages = Stages {
+        store,
+        table: &table,
+        stages,
+        count,
+        textures: &textures,
+    };
+    let paint = Staged { state, stages };
+    Ok(draw_checked(colors, depths, width, height, &paint, t))
 }

@@ -2,14 +2,15 @@
 #![tactic(auto)]
 
 ghost use Rattle.std.specs.Prelude.{◌≡◌, ◌*◌, length};
-ghost use Rattle.draw_bytes.specs.Write.{bytes_of, float_bits, cull_code, number_words, viewport_words, box_words, settings_words, stage_words, vertex_words};
+ghost use Rattle.lists.specs.Lists.{tab};
+ghost use Rattle.draw_bytes.specs.Write.{bytes_of, float_bits, float_bits_at, cull_code, number_words, viewport_words, box_words, settings_words, stage_words, vertex_words};
 
 use settings::{CullMode, PipelineState, ScissorBox, TextureStage, Viewport};
 use std::num;
 use vertices::Vertex;
 
 // A float's bits; NaN is the quiet one.
-#[tactic(auto, unfolding(crate::specs::Write::float_bits))]
+// Kept: std's function by a short name, for the sixteen calls below. (4d)
 fn float_bits(x: f32) -> u32
     ensures { result ≡ float_bits x }
 {
@@ -26,6 +27,7 @@ fn cull_code(c: Option<CullMode>) -> u32
     }
 }
 
+// Kept: the bytes are `to_le_bytes`'s, and of chunks that `as_chunks_mut` has lent std says nothing once they are written. (4g)
 fn put_words(b: &mut [u8], words: &[u32])
     requires { length b.old ≡ length words.now * 4 }
     ensures { b.new ≡ bytes_of words.now }
@@ -56,29 +58,26 @@ pub fn write_stage(b: &mut [u8], stage: TextureStage)
     put_words(b, &stage_words(stage));
 }
 
-#[tactic(auto, unfolding(crate::specs::Write::vertex_words))]
+#[tactic(auto, using(lists::proofs::Tables::tab_none))]
+fn float_words<const N: usize>(x: [f32; N]) -> [u32; N]
+    ensures { result ≡ tab N (float_bits_at x.entry) }
+{
+    let mut out = [0; N];
+    for (i, word) in out.iter_mut().enumerate() {
+        *word = float_bits(x[i]);
+    }
+    out
+}
+
 fn vertex_words(v: Vertex) -> [u32; 17]
     ensures { result ≡ vertex_words v }
 {
-    [
-        float_bits(v.pos[0]),
-        float_bits(v.pos[1]),
-        float_bits(v.pos[2]),
-        float_bits(v.pos[3]),
-        float_bits(v.color[0]),
-        float_bits(v.color[1]),
-        float_bits(v.color[2]),
-        float_bits(v.color[3]),
-        float_bits(v.texcoord[0]),
-        float_bits(v.texcoord[1]),
-        float_bits(v.texcoord[2]),
-        float_bits(v.texcoord[3]),
-        float_bits(v.texcoord[4]),
-        float_bits(v.texcoord[5]),
-        float_bits(v.texcoord[6]),
-        float_bits(v.texcoord[7]),
-        float_bits(v.fog_depth),
-    ]
+    let mut out = [0; 17];
+    out[..4].copy_from_slice(&float_words(v.pos));
+    out[4..8].copy_from_slice(&float_words(v.color));
+    out[8..16].copy_from_slice(&float_words(v.texcoord));
+    out[16] = float_bits(v.fog_depth);
+    out
 }
 
 pub fn write_vertex(b: &mut [u8], v: Vertex)
@@ -120,20 +119,20 @@ fn box_words(s: Option<ScissorBox>) -> [u32; 4]
 fn settings_words(s: PipelineState) -> [u32; 36]
     ensures { result ≡ settings_words s }
 {
-    let v = viewport_words(s.viewport);
-    let w = box_words(s.scissor);
+    let [x, y, width, height] = viewport_words(s.viewport);
+    let [box_x, box_y, box_width, box_height] = box_words(s.scissor);
     [
-        v[0],
-        v[1],
-        v[2],
-        v[3],
+        x,
+        y,
+        width,
+        height,
         float_bits(s.depth_range.near),
         float_bits(s.depth_range.far),
         u32::from(s.scissor.is_some()),
-        w[0],
-        w[1],
-        w[2],
-        w[3],
+        box_x,
+        box_y,
+        box_width,
+        box_height,
         u32::from(s.depth_test),
         u32::from(s.depth_func),
         u32::from(s.depth_write),

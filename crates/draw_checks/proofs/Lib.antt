@@ -1,3 +1,4 @@
 pub mod Below
+pub mod Cut
 pub mod Passed
 pub mod Early

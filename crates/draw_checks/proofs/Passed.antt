@@ -1,12 +1,13 @@
 -- What a draw's checks leave known. Assumes nothing.
-use mathlib.Core.Path.{◌≡◌, refl, sym}
+use mathlib.Core.Path.{◌≡◌, refl}
 use mathlib.Core.Bool.{true}
 use mathlib.Core.List.{List}
 use Prim.Native.Nat.{ℕ, suc, ◌<◌, ◌≤◌}
 use native.Mathlib.Omega.{arith}
 use lib.Dec.{ltb, leb}
 use borrow.Author.Tests.{leb-true, ltb-true}
-use Rattle.lists.proofs.Choice.{was_true, true_false}
+use Rattle.std.proofs.lemmas.Bool.{false≢true}
+use Rattle.lists.proofs.Choice.{was_true}
 use Rattle.levels.specs.declared.Texture.{Texture}
 use Rattle.levels.specs.Levels.{valid_of}
 use Rattle.settings.specs.declared.TextureStage.{TextureStage}
@@ -47,7 +48,7 @@ module _ (stages : List TextureStage) (n : ℕ) (e : stages_fit stages n ≡ tru
   parts : (leb n 4 ≡ true) × ((i : ℕ) → i < n → stage_fits (stage_at stages i) ≡ true)
   unfolding stages_fit
   parts =
-      let a = was_true (leb n 4) e (λ h. true_false (sym h)) in
+      let a = was_true (leb n 4) e false≢true in
       (a.0, below_at (λ i. stage_fits (stage_at stages i)) n a.1)
 
   pub stages_few : n ≤ 4
@@ -55,7 +56,7 @@ module _ (stages : List TextureStage) (n : ℕ) (e : stages_fit stages n ≡ tru
 
   pub unit_below : (i : ℕ) → i < n → (stage_at stages i).unit < 4
   unfolding stage_fits
-  unit_below i h = ltb-true _ 4 (was_true (ltb (stage_at stages i).unit 4) (parts.1 i h) (λ k. true_false (sym k))).0
+  unit_below i h = ltb-true _ 4 (was_true (ltb (stage_at stages i).unit 4) (parts.1 i h) false≢true).0
 
   -- and the records that pass 8
   pub stages_do_fit : (len : ℕ) (xs : List Texture) → records_fit len n xs ≡ true → StagesFit len n stages xs

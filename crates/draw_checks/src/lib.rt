@@ -1,17 +1,16 @@
 // The checks of a draw, in document 01's order: 1, 2, 3, 4, 7, 6, and then 8, 5.
 #![tactic(auto)]
 
-ghost use Rattle.std.specs.Prelude.{◌≡◌, ◌≤◌, []};
+ghost use Rattle.std.specs.Prelude.{◌≡◌, [], length};
 ghost use Rattle.std.specs.List.{list_all};
 ghost use Rattle.answers.specs.Results.{answer_number};
 ghost use Rattle.floats.specs.Num.{bounded_of};
-ghost use Rattle.levels.specs.Levels.{valid_of};
 ghost use Rattle.draw_checks.specs.Checks.{viewport_fits, color_fits, state_fits, fog_fits, stage_fits, stages_fit, records_fit, vertex_fits, vertices_fit, early_check, late_check};
 
 use answers::Refusal;
 use levels::Texture;
 use settings::{FogMode, PipelineState, Rgba, TextureStage, Viewport};
-use vertices::Vertex;
+use vertices::{Triangle, Vertex};
 
 #[tactic(auto, unfolding(crate::specs::Checks::viewport_fits))]
 fn viewport_fits(v: Viewport) -> bool
@@ -20,6 +19,7 @@ fn viewport_fits(v: Viewport) -> bool
     scissor::number_fits(v.x) && scissor::number_fits(v.y) && v.width <= 4096 && v.height <= 4096
 }
 
+// Kept: one call of all, as records_fit, each over its own test (2b)
 fn all_fit(v: &[f32]) -> bool
     ensures { result ≡ list_all bounded_of v.now }
 {
@@ -66,31 +66,22 @@ fn stage_fits(x: TextureStage) -> bool
     x.unit < PipelineState::MAX_TEXTURE_STAGES && color_fits(x.env_color)
 }
 
-fn each_stage_fits(stages: &[TextureStage]) -> bool
-    ensures { result ≡ list_all stage_fits stages.now }
-{
-    stages.iter().all(|x| stage_fits(*x))
-}
-
+// Kept: check 6 refuses a count above four, so that before it the count is no length of the four (6a)
 fn stages_fit(stages: [TextureStage; 4], count: usize) -> bool
     ensures { result ≡ stages_fit stages count }
 {
-    count <= 4 && each_stage_fits(&stages[..count])
+    count <= 4 && stages[..count].iter().all(|x| stage_fits(*x))
 }
 
-fn each_record_fits(textures: &[Texture], len: usize) -> bool
-    ensures { result ≡ list_all (valid_of len) textures.now }
+// The records that the stages in use read, valid over a store of len bytes.
+// Kept: levels::is_valid's own parameter, handed on; 2b as all_fit (2b, 6b)
+fn records_fit(textures: &[Texture], len: usize) -> bool
+    ensures { result ≡ records_fit len (length textures.now) textures.now }
 {
     textures.iter().all(|x| levels::is_valid(*x, len))
 }
 
-fn records_fit(textures: [Texture; 4], count: usize, len: usize) -> bool
-    requires { count ≤ 4 }
-    ensures { result ≡ records_fit len count textures }
-{
-    each_record_fits(&textures[..count], len)
-}
-
+// Kept: the floats of a vertex's four fields; what tests a colour's four by name is of another type (2b)
 #[tactic(auto, unfolding(crate::specs::Checks::vertex_fits))]
 fn vertex_fits(v: Vertex) -> bool
     ensures { result ≡ vertex_fits v }
@@ -98,14 +89,16 @@ fn vertex_fits(v: Vertex) -> bool
     all_fit(&v.pos) && all_fit(&v.color) && all_fit(&v.texcoord) && floats::is_bounded(v.fog_depth)
 }
 
+// Kept: an array of the three with all over it is no shorter, and copies them (2b, 3f)
 #[tactic(auto, unfolding(crate::specs::Checks::vertices_fit))]
-pub fn vertices_fit(a: Vertex, b: Vertex, c: Vertex) -> bool
-    ensures { result ≡ vertices_fit a b c }
+pub fn vertices_fit(t: Triangle) -> bool
+    ensures { result ≡ vertices_fit t.a t.b t.c }
 {
-    vertex_fits(a) && vertex_fits(b) && vertex_fits(c)
+    vertex_fits(t.a) && vertex_fits(t.b) && vertex_fits(t.c)
 }
 
-// 1, 2, 3, 4 and 7.
+// 1, 2, 3, 4 and 7. colors, depths: how many there are.
+// Kept: handed on to scissor::target_fits, which clears and the export call with one slice and the other's length (5c, 6b)
 #[tactic(auto, using(std::proofs::lemmas::Bool::Decides::nat_tests), unfolding(crate::specs::Checks::early_check, crate::specs::Checks::stages_fit, crate::specs::Checks::all_below))]
 pub fn check_settings(
     width: u32,
@@ -135,6 +128,8 @@ pub fn check_settings(
 }
 
 // 1, 2, 3, 4, 7 and 6.
+// Kept: handed on to scissor::target_fits, which clears and the export call with one slice and the other's length (5c, 6b)
+// Kept: check 6 refuses a count above four, so that before it the count is no length of the four (6a)
 #[tactic(auto, using(std::proofs::lemmas::Bool::Decides::nat_tests), unfolding(crate::specs::Checks::early_check))]
 pub fn check_early(
     width: u32,
@@ -154,23 +149,16 @@ pub fn check_early(
     Ok(())
 }
 
-// 8 and 5.
+// 8 and 5. textures: the records that the stages in use read; len: the store's length.
+// Kept: levels::is_valid's own parameter, handed on (6b)
 #[tactic(auto, using(std::proofs::lemmas::Bool::Decides::nat_tests), unfolding(crate::specs::Checks::late_check))]
-pub fn check_late(
-    len: usize,
-    count: usize,
-    textures: [Texture; 4],
-    a: Vertex,
-    b: Vertex,
-    c: Vertex,
-) -> Result<(), Refusal>
-    requires { count ≤ 4 }
-    ensures { answer_number result ≡ late_check len count textures a b c }
+pub fn check_late(textures: &[Texture], len: usize, t: Triangle) -> Result<(), Refusal>
+    ensures { answer_number result ≡ late_check len (length textures.now) textures.now t.a t.b t.c }
 {
-    if !records_fit(textures, count, len) {
+    if !records_fit(textures, len) {
         return Err(Refusal::Record);
     }
-    if !vertices_fit(a, b, c) {
+    if !vertices_fit(t) {
         return Err(Refusal::Vertex);
     }
     Ok(())

@@ -1,16 +1,19 @@
 // The byte layouts of a draw, as they cross the C boundary (docs/INTERFACE.md): settings, stages, vertices and the units' records.
 #![tactic(auto)]
 
-ghost use Rattle.std.specs.Prelude.{◌≡◌, cond, ◌+◌, ◌*◌, ◌≤◌, ◌<◌, length, is_some};
+ghost use Rattle.std.specs.Prelude.{◌≡◌, ℕ, cond, not, eqb, ◌+◌, ◌*◌, ◌≤◌, ◌<◌, length, is_some, from_bits};
+ghost use Rattle.std.specs.Float.{binary32};
 ghost use Rattle.lists.specs.Lists.{tab};
-ghost use Rattle.draw_layouts.specs.Numbers.{signed_at, float_at, switch_at, color_at};
+ghost use Rattle.layouts.specs.Words.{word};
+ghost use Rattle.draw_layouts.specs.Numbers.{signed_of, float_at, color_at};
 ghost use Rattle.draw_layouts.specs.Codes.{cull_of};
-ghost use Rattle.draw_layouts.specs.Settings.{viewport_of, scissor_of, mask_of, read_settings};
+ghost use Rattle.draw_layouts.specs.Settings.{viewport_of, scissor_of, mask_of, codes_known, state_of, read_settings};
 ghost use Rattle.draw_layouts.specs.Stages.{stage_or, stage_known, read_stages};
 ghost use Rattle.draw_layouts.specs.Vertices.{read_vertex, read_vertices};
 ghost use Rattle.draw_layouts.specs.Units.{read_unit, read_units};
 
 use answers::Refusal;
+use layouts::Layout;
 use levels::Texture;
 use settings::{
     BlendFactor, ColorMask, CompareFunc, CullMode, DepthRange, FogMode, FrontFace, PipelineState,
@@ -20,60 +23,91 @@ use std::num;
 use vertices::Vertex;
 
 // The stages of a layout, of which the first four are read; count is that of all.
-#[derive(Clone, Copy)]
+// Kept: the count is no length of `first`: the C interface takes any number of stages, and a draw refuses more than four. (6a)
+#[derive(Clone, Copy, Debug, PartialEq)]
 pub struct Stages {
     pub first: [TextureStage; 4],
     pub count: usize,
 }
 
-fn signed_at(b: &[u8], at: usize) -> i32
-    requires { at + 4 ≤ length b.now }
-    ensures { result ≡ signed_at b.now at }
-{
-    layouts::word_at(b, at).cast_signed()
+const UNUSED: TextureStage = TextureStage {
+    unit: 0,
+    env: TexEnvMode::Modulate,
+    env_color: Rgba {
+        r: 0.0,
+        g: 0.0,
+        b: 0.0,
+        a: 0.0,
+    },
+};
+
+// What a word of four bytes stands for.
+trait Word: Copy {
+    ghost of: { ℕ → Self };
+
+    fn of(word: u32) -> Self
+        ensures { result ≡ of word };
 }
 
-#[tactic(auto, unfolding(crate::specs::Numbers::float_at))]
-fn float_at(b: &[u8], at: usize) -> f32
-    requires { at + 4 ≤ length b.now }
-    ensures { result ≡ float_at b.now at }
-{
-    num::f32_from_bits_with_nan(layouts::word_at(b, at))
+impl Word for i32 {
+    ghost of = { signed_of };
+
+    fn of(word: u32) -> i32 {
+        word.cast_signed()
+    }
 }
 
-#[tactic(auto, unfolding(crate::specs::Numbers::switch_at))]
-fn switch_at(b: &[u8], at: usize) -> bool
-    requires { at + 4 ≤ length b.now }
-    ensures { result ≡ switch_at b.now at }
-{
-    layouts::word_at(b, at) != 0
+impl Word for f32 {
+    ghost of = { λ n. from_bits binary32 n };
+
+    fn of(word: u32) -> f32 {
+        num::f32_from_bits_with_nan(word)
+    }
 }
 
-#[tactic(auto, unfolding(crate::specs::Numbers::color_at))]
+// 0 is off.
+impl Word for bool {
+    ghost of = { λ n. not (eqb n 0) };
+
+    fn of(word: u32) -> bool {
+        word != 0
+    }
+}
+
+fn read_at<T: Word>(b: &[u8], at: usize) -> T
+    requires { at + 4 ≤ length b.now } // Kept: as in layouts::word_at. (5a)
+    ensures { result ≡ T.of (word b.now at) }
+{
+    T::of(layouts::word_at(b, at))
+}
+
+#[tactic(auto, unfolding(crate::specs::Numbers::color_at, crate::specs::Numbers::float_at))]
 fn color_at(b: &[u8], at: usize) -> Rgba
     requires { at + 16 ≤ length b.now }
     ensures { result ≡ color_at b.now at }
 {
     Rgba {
-        r: float_at(b, at),
-        g: float_at(b, at + 4),
-        b: float_at(b, at + 8),
-        a: float_at(b, at + 12),
+        r: read_at(b, at),
+        g: read_at(b, at + 4),
+        b: read_at(b, at + 8),
+        a: read_at(b, at + 12),
     }
 }
 
+#[tactic(auto, using(lists::proofs::Tables::tab_none))]
 fn floats_at<const N: usize>(b: &[u8], at: usize) -> [f32; N]
     requires { at + N * 4 ≤ length b.now }
     ensures { result ≡ tab N (λ i. float_at b.now (at + i * 4)) }
 {
     let mut out = [0.0; N];
     for (i, x) in out.iter_mut().enumerate() {
-        *x = float_at(b, at + i * 4);
+        *x = read_at(b, at + i * 4);
     }
     out
 }
 
 // The faces that a code says are discarded: 0 is none.
+// Kept: neither `Option` nor `CullMode` is of this crate, so that no impl of TryFrom for an `Option<CullMode>` can stand here.
 #[tactic(auto, using(std::proofs::lemmas::Bool::Decides::nat_tests), unfolding(crate::specs::Codes::cull_of))]
 fn cull_of(code: u32) -> Result<Option<CullMode>, Refusal>
     ensures { result ≡ cull_of code }
@@ -84,55 +118,50 @@ fn cull_of(code: u32) -> Result<Option<CullMode>, Refusal>
     }
 }
 
-#[tactic(auto, unfolding(crate::specs::Settings::viewport_of))]
-fn viewport_at(b: &[u8]) -> Viewport
-    requires { length b.now ≡ 144 }
+#[tactic(auto, unfolding(crate::specs::Settings::viewport_of, crate::specs::Numbers::signed_at))]
+fn viewport_at(b: &[u8; 144]) -> Viewport
     ensures { result ≡ viewport_of b.now }
 {
     Viewport {
-        x: signed_at(b, 0),
-        y: signed_at(b, 4),
-        width: signed_at(b, 8),
-        height: signed_at(b, 12),
+        x: read_at(b, 0),
+        y: read_at(b, 4),
+        width: read_at(b, 8),
+        height: read_at(b, 12),
     }
 }
 
-#[tactic(auto, using(std::proofs::lemmas::Bool::Decides::nat_tests), unfolding(crate::specs::Settings::scissor_of))]
-fn scissor_at(b: &[u8]) -> Option<ScissorBox>
-    requires { length b.now ≡ 144 }
+// Kept: a layout's box has its switch and its numbers at places of its own. (2c)
+#[tactic(auto, using(std::proofs::lemmas::Bool::Decides::nat_tests), unfolding(crate::specs::Settings::scissor_of, crate::specs::Numbers::signed_at))]
+fn scissor_at(b: &[u8; 144]) -> Option<ScissorBox>
     ensures { result ≡ scissor_of b.now }
 {
     if layouts::word_at(b, 24) == 0 {
         return None;
     }
     Some(ScissorBox {
-        x: signed_at(b, 28),
-        y: signed_at(b, 32),
-        width: signed_at(b, 36),
-        height: signed_at(b, 40),
+        x: read_at(b, 28),
+        y: read_at(b, 32),
+        width: read_at(b, 36),
+        height: read_at(b, 40),
     })
 }
 
-#[tactic(auto, unfolding(crate::specs::Settings::mask_of))]
-fn mask_at(b: &[u8]) -> ColorMask
-    requires { length b.now ≡ 144 }
+#[tactic(auto, unfolding(crate::specs::Settings::mask_of, crate::specs::Numbers::switch_at))]
+fn mask_at(b: &[u8; 144]) -> ColorMask
     ensures { result ≡ mask_of b.now }
 {
     ColorMask {
-        r: switch_at(b, 88),
-        g: switch_at(b, 92),
-        b: switch_at(b, 96),
-        a: switch_at(b, 100),
+        r: read_at(b, 88),
+        g: read_at(b, 92),
+        b: read_at(b, 96),
+        a: read_at(b, 100),
     }
 }
 
-#[tactic(auto, using(std::proofs::lemmas::Bool::Decides::nat_tests), unfolding(crate::specs::Settings::read_settings, crate::specs::Settings::codes_known, crate::specs::Settings::tests_known, crate::specs::Settings::modes_known, crate::specs::Settings::state_of))]
-pub fn read_settings(b: &[u8]) -> Option<PipelineState>
-    ensures { result ≡ read_settings b.now }
+#[tactic(auto, using(std::proofs::lemmas::Bool::Decides::nat_tests), unfolding(crate::specs::Settings::codes_known, crate::specs::Settings::tests_known, crate::specs::Settings::modes_known, crate::specs::Settings::state_of, crate::specs::Numbers::float_at, crate::specs::Numbers::switch_at))]
+fn settings_of(b: &[u8; 144]) -> Option<PipelineState>
+    ensures { result ≡ cond (codes_known b.now) (Some (state_of b.now)) None }
 {
-    if b.len() != 144 {
-        return None;
-    }
     let depth_func = CompareFunc::try_from(layouts::word_at(b, 48)).ok()?;
     let alpha_func = CompareFunc::try_from(layouts::word_at(b, 60)).ok()?;
     let blend_src = BlendFactor::try_from(layouts::word_at(b, 72)).ok()?;
@@ -143,56 +172,54 @@ pub fn read_settings(b: &[u8]) -> Option<PipelineState>
     Some(PipelineState {
         viewport: viewport_at(b),
         depth_range: DepthRange {
-            near: float_at(b, 16),
-            far: float_at(b, 20),
+            near: read_at(b, 16),
+            far: read_at(b, 20),
         },
         scissor: scissor_at(b),
-        depth_test: switch_at(b, 44),
+        depth_test: read_at(b, 44),
         depth_func,
-        depth_write: switch_at(b, 52),
-        alpha_test: switch_at(b, 56),
+        depth_write: read_at(b, 52),
+        alpha_test: read_at(b, 56),
         alpha_func,
-        alpha_ref: float_at(b, 64),
-        blend: switch_at(b, 68),
+        alpha_ref: read_at(b, 64),
+        blend: read_at(b, 68),
         blend_src,
         blend_dst,
         cull,
         front_face,
         color_mask: mask_at(b),
-        fog: switch_at(b, 104),
+        fog: read_at(b, 104),
         fog_mode,
         fog_color: color_at(b, 112),
-        fog_start: float_at(b, 128),
-        fog_end: float_at(b, 132),
-        fog_density: float_at(b, 136),
-        smooth_shading: switch_at(b, 140),
+        fog_start: read_at(b, 128),
+        fog_end: read_at(b, 132),
+        fog_density: read_at(b, 136),
+        smooth_shading: read_at(b, 140),
     })
+}
+
+#[tactic(auto, using(std::proofs::lemmas::Bool::Decides::nat_tests), unfolding(crate::specs::Settings::read_settings))]
+pub fn read_settings(b: &[u8]) -> Option<PipelineState>
+    ensures { result ≡ read_settings b.now }
+{
+    let b = <&[u8; 144]>::try_from(b).ok()?;
+    settings_of(b)
 }
 
 // Stage k, or an unused one past the end.
 #[tactic(auto, using(std::proofs::lemmas::Bool::Decides::nat_tests), unfolding(crate::specs::Stages::stage_known, crate::specs::Stages::stage_or, crate::specs::Stages::read_stage))]
 fn stage_at(b: &[u8], k: usize) -> Option<TextureStage>
-    requires { k < 4 }
     ensures { result ≡ cond (stage_known b.now k) (Some (stage_or b.now k)) None }
 {
-    if k < b.len() / 24 {
-        let at = k * 24;
-        let env = TexEnvMode::try_from(layouts::word_at(b, at + 4)).ok()?;
-        return Some(TextureStage {
-            unit: layouts::word_at(b, at),
-            env,
-            env_color: color_at(b, at + 8),
-        });
+    if b.len() / 24 <= k {
+        return Some(UNUSED);
     }
+    let at = k * 24;
+    let env = TexEnvMode::try_from(layouts::word_at(b, at + 4)).ok()?;
     Some(TextureStage {
-        unit: 0,
-        env: TexEnvMode::Modulate,
-        env_color: Rgba {
-            r: 0.0,
-            g: 0.0,
-            b: 0.0,
-            a: 0.0,
-        },
+        unit: layouts::word_at(b, at),
+        env,
+        env_color: color_at(b, at + 8),
     })
 }
 
@@ -204,6 +231,7 @@ pub fn read_stages(b: &[u8]) -> Option<Stages>
         return None;
     }
     let first = stage_at(b, 0)?;
+    // Kept: std's `try_from_fn` takes a closure that answers a Result: `.ok_or(())` in it and `.ok()?` behind it, for four lines. (3f)
     let second = stage_at(b, 1)?;
     let third = stage_at(b, 2)?;
     let fourth = stage_at(b, 3)?;
@@ -222,7 +250,7 @@ fn vertex_at(b: &[u8], at: usize) -> Vertex
         pos: floats_at(b, at),
         color: floats_at(b, at + 16),
         texcoord: floats_at(b, at + 32),
-        fog_depth: float_at(b, at + 64),
+        fog_depth: read_at(b, at + 64),
     }
 }
 
@@ -243,23 +271,24 @@ fn unit_at(b: &[u8], at: usize) -> Option<Texture>
     layouts::read_record(&b[at..at + 244])
 }
 
-fn is_unit_known(b: &[u8], at: usize) -> bool
+fn unit_layout_at(b: &[u8], at: usize) -> Option<Layout<'_>>
     requires { at + 244 ≤ length b.now }
-    ensures { result ≡ is_some (read_unit b.now at) }
+    ensures { is_some result ≡ is_some (read_unit b.now at) }
 {
-    layouts::is_known(&b[at..at + 244])
+    Layout::new(&b[at..at + 244])
 }
 
 // Whether a layout holds the units' records: for a draw that reads none of them.
+// Kept: `read_units(b).is_some()` would copy four records of eleven levels for a draw that reads none. (1h)
 #[tactic(auto, using(std::proofs::lemmas::Bool::Decides::nat_tests), unfolding(crate::specs::Units::read_units))]
 pub fn are_units_known(b: &[u8]) -> bool
     ensures { result ≡ is_some (read_units b.now) }
 {
     b.len() == 976
-        && is_unit_known(b, 0)
-        && is_unit_known(b, 244)
-        && is_unit_known(b, 488)
-        && is_unit_known(b, 732)
+        && unit_layout_at(b, 0).is_some()
+        && unit_layout_at(b, 244).is_some()
+        && unit_layout_at(b, 488).is_some()
+        && unit_layout_at(b, 732).is_some()
 }
 
 #[tactic(auto, using(std::proofs::lemmas::Bool::Decides::nat_tests), unfolding(crate::specs::Units::read_units))]
@@ -270,6 +299,7 @@ pub fn read_units(b: &[u8]) -> Option<[Texture; 4]>
         return None;
     }
     let first = unit_at(b, 0)?;
+    // Kept: std's `try_from_fn` takes a closure that answers a Result: `.ok_or(())` in it and `.ok()?` behind it, for four lines. (3f)
     let second = unit_at(b, 244)?;
     let third = unit_at(b, 488)?;
     let fourth = unit_at(b, 732)?;

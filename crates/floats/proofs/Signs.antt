@@ -1,12 +1,11 @@
 -- A float's sign, kind and size, by the comparisons that the code makes. Assumes nothing.
-use Rattle.std.proofs.Common.{◌≡◌, ℕ, zero, suc, ◌+◌, ◌*◌, ◌%◌, ◌^◌, ◌<◌, ◌≤◌, Bool, true, false, not, ◌&&◌, ◌||◌, T, eqb, ltb, leb, ◌⊎◌, ℤ, pos, negsuc, sym, refl, ap, ◌∙◌, inl, inr, eq-or-lt_of_le, mul-one, arith, eqb→eq, pow_pos, ltb-false, ltb-true, le-ltb, lt-ltb, eq-eqb, eqb-true, le-leb, leb-true}
-use lib.Ieee.{Float, nan, inf, fin, up, down, lt, le, eq, ne, neg, fits, is_nan, nan_bits, binary32}
+use Rattle.std.proofs.lemmas.Bool.{true≢false, false≢true}
+use Rattle.std.proofs.Common.{◌≡◌, ℕ, zero, suc, ◌+◌, ◌*◌, ◌^◌, ◌<◌, ◌≤◌, Bool, true, false, ◌&&◌, ◌||◌, T, eqb, ltb, leb, ◌⊎◌, ℤ, pos, negsuc, sym, refl, ap, ◌∙◌, inl, inr, eq-or-lt_of_le, mul-one, arith, eqb→eq, pow_pos, ltb-false, ltb-true, lt-ltb, eq-eqb, eqb-true, le-leb, leb-true}
+use lib.Ieee.{Float, nan, inf, fin, up, down, lt, le, eq, ne, neg, fits, is_nan, of_bits, binary32}
 use Rattle.std.specs.Float.{float_with_sign, float_is_finite}
-use lib.Ieee.Bits.{nan_bits_above}
 use lib.Ieee.Fits.{down_pos}
 use native.Mathlib.Nat.{pow-succ'}
 use borrow.Author.Tests.{lt-leb}
-use Rattle.lists.proofs.Choice.{true_false}
 use Rattle.floats.specs.Num.{abs_of, finite_of, bounded_of}
 use Rattle.floats.proofs.Cut.{two_to}
 
@@ -48,7 +47,7 @@ at_most : (a b : ℕ) (e : Bool) → (e ≡ true → a ≡ b) → (a ≡ b → e
 at_most a b e f g = go (ltb a b) e (ltb-true a b) (ltb-false a b) f g
   where
     strict : (e : Bool) → (a ≡ b → e ≡ true) → e ≡ false → (b ≡ a) ⊎ (b < a) → b < a
-    strict e g n (inl q) = absurd (true_false (sym (g (sym q)) ∙ n))
+    strict e g n (inl q) = absurd (true≢false (sym (g (sym q)) ∙ n))
     strict e g n (inr l) = l
 
     go : (l e : Bool) → (l ≡ true → a < b) → (l ≡ false → b ≤ a) → (e ≡ true → a ≡ b) → (a ≡ b → e ≡ true) → l || (e && true) ≡ leb a b
@@ -66,11 +65,11 @@ plain : (m : ℕ) (d : ℤ) → le (fin false m d) limit ≡ leb (m * up d * 1) 
 unfolding le lt eq
 plain m d = at_most (m * up d * 1) (1 * 2 ^ 20 * down d) (eqb (m * up d * 1) (1 * 2 ^ 20 * down d)) (eqb-true (m * up d * 1) (1 * 2 ^ 20 * down d)) (eq-eqb (m * up d * 1) (1 * 2 ^ 20 * down d))
 
-pub bounded_below : (x : Float) → le x limit ≡ true → le (neg limit) x ≡ bounded_of x
-unfolding le lt eq neg bounded_of
+pub bounded_below : (x : Float) → le x (of_bits binary32 0x4980_0000) ≡ true → le (neg (of_bits binary32 0x4980_0000)) x ≡ bounded_of x
+unfolding of_bits le lt eq neg bounded_of
 bounded_below nan e = refl
 bounded_below (inf true) e = refl
-bounded_below (inf false) e = absurd (true_false (sym e))
+bounded_below (inf false) e = absurd (false≢true e)
 bounded_below (fin true m d) e =
     at_most (m * up d * 1) (1 * 2 ^ 20 * down d) (eqb (1 * 2 ^ 20 * down d) (m * up d * 1)) (λ h. sym (eqb-true (1 * 2 ^ 20 * down d) (m * up d * 1) h)) (λ h. eq-eqb (1 * 2 ^ 20 * down d) (m * up d * 1) (sym h))
     ∙ same (m * up d) (down d)
@@ -78,13 +77,10 @@ bounded_below (fin false m d) e =
     let h : m * up d ≤ 1048576 * down d = omega (arith, leb-true (m * up d * 1) (1 * 2 ^ 20 * down d) (sym (plain m d) ∙ e)) in
     rw (lt-ltb 0 (1 * 2 ^ 20 * down d + m * up d * 1) (omega (arith, down_pos d))) (sym (le-leb (m * up d) (1048576 * down d) h))
 
-pub bounded_above : (x : Float) → le x limit ≡ false → false ≡ bounded_of x
-unfolding le lt eq bounded_of
-bounded_above nan e = refl
-bounded_above (inf s) e = refl
-bounded_above (fin true m d) e = absurd (true_false (sym (rw (lt-ltb 0 (m * up d * 1 + 1 * 2 ^ 20 * down d) (omega (arith, down_pos d)))) ∙ e))
-bounded_above (fin false m d) e = sym e ∙ plain m d ∙ same (m * up d) (down d)
-
--- ---- a number's bit patterns
-pub pattern_number : (n : ℕ) → n % 0x8000_0000 ≤ 0x7f80_0000 → T (not (nan_bits binary32 n))
-pattern_number n h = rw (nan_bits_above binary32 n, le-ltb 0x7f80_0000 (n % 0x8000_0000) h) tt
+pub bounded_above : (x : Float) → le x (of_bits binary32 0x4980_0000) ≡ false → le x (of_bits binary32 0x4980_0000) ≡ bounded_of x
+unfolding of_bits le lt eq bounded_of
+bounded_above nan e = e
+bounded_above (inf true) e = absurd (true≢false e)
+bounded_above (inf false) e = e
+bounded_above (fin true m d) e = absurd (true≢false (sym (rw (lt-ltb 0 (m * up d * 1 + 1 * 2 ^ 20 * down d) (omega (arith, down_pos d)))) ∙ e))
+bounded_above (fin false m d) e = plain m d ∙ same (m * up d) (down d)

@@ -7,7 +7,7 @@ ghost use Rattle.std.specs.Float.{binary32};
 ghost use Rattle.floats.specs.Num.{min_of, max_of, clamp_of, abs_of, finite_of, bounded_of};
 
 // a.min(b): the other number where one is NaN, the first of two zeros.
-// Kept: std's f32::min promises either of two equal numbers, so either zero, and min_of is the first.
+// Kept: tried as a.min(b): std promises either of two equal numbers, so either zero, and min_of is the first: `returns` stays open.
 pub fn min(a: f32, b: f32) -> f32
     ensures { result ≡ min_of a b }
 {
@@ -18,7 +18,7 @@ pub fn min(a: f32, b: f32) -> f32
 }
 
 // a.max(b): the other number where one is NaN, the first of two zeros.
-// Kept: std's f32::max promises either of two equal numbers, so either zero, and max_of is the first.
+// Kept: tried as a.max(b): std promises either of two equal numbers, so either zero, and max_of is the first: `returns` stays open.
 pub fn max(a: f32, b: f32) -> f32
     ensures { result ≡ max_of a b }
 {
@@ -29,7 +29,7 @@ pub fn max(a: f32, b: f32) -> f32
 }
 
 // x.clamp(lo, hi): a NaN stays.
-// Kept: std's f32::clamp asks that lo <= hi, and C calls probe_clamp with any two.
+// Kept: tried as x.clamp(lo, hi): std asks that lo <= hi, and any two come from the C interface: `clamp-requires` stays open.
 pub fn clamp(x: f32, lo: f32, hi: f32) -> f32
     ensures { result ≡ clamp_of x lo hi }
 {
@@ -39,12 +39,14 @@ pub fn clamp(x: f32, lo: f32, hi: f32) -> f32
     if x > hi { hi } else { x }
 }
 
+#[tactic(auto, using(crate::proofs::Signs::abs_is))]
 pub fn abs(x: f32) -> f32
     ensures { result ≡ abs_of x }
 {
     x.abs()
 }
 
+#[tactic(auto, using(crate::proofs::Signs::finite_is))]
 pub fn is_finite(x: f32) -> bool
     ensures { result ≡ finite_of x }
 {
@@ -55,10 +57,7 @@ pub fn is_finite(x: f32) -> bool
 pub fn is_bounded(x: f32) -> bool
     ensures { result ≡ bounded_of x }
 {
-    if x <= 1048576.0 {
-        return x >= -1048576.0;
-    }
-    false
+    x <= 1048576.0 && x >= -1048576.0
 }
 
 // f32::from_bits(n): every NaN pattern is the one NaN.

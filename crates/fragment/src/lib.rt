@@ -9,6 +9,7 @@ ghost use Rattle.fragment.specs.Fragment.{blend_channel, blend_of, masked_of, pu
 use settings::{BlendFactor, ColorMask, PipelineState, Rgba, TexEnvMode, TextureStage};
 
 // Four bytes as a colour.
+// Kept: an `impl From<[u8; 4]> for Rgba` can only stand in settings, which has no units of bytes: those are of channels (4e)
 pub fn to_units(r: u8, g: u8, b: u8, a: u8) -> Rgba
     ensures { result ≡ units_of r g b a }
 {

@@ -2,7 +2,7 @@
 #![tactic(auto)]
 
 ghost use Rattle.std.specs.Prelude.{◌≡◌};
-ghost use Rattle.gradients.specs.Gradients.{sum_of, perspective_sum, slopes_x, slopes_y, derivatives_of, slope_of, attribute_of};
+ghost use Rattle.gradients.specs.Gradients.{per_corner, sum_of, perspective_sum, slopes_x, slopes_y, derivatives_of, slope_of, attribute_of};
 
 // A number for each corner of a triangle.
 #[derive(Clone, Copy, Debug, PartialEq)]
@@ -42,8 +42,22 @@ pub fn perspective_sum(w: PerCorner, inv_w: PerCorner, v: PerCorner) -> f32
     w.a * inv_w.a * v.a + w.b * inv_w.b * v.b + w.c * inv_w.c * v.c
 }
 
+impl PerCorner {
+    // The corners the other way round: b and c change places.
+    fn turned(self) -> PerCorner
+        ensures { result ≡ per_corner self.a self.c self.b }
+    {
+        PerCorner {
+            a: self.a,
+            b: self.c,
+            c: self.b,
+        }
+    }
+}
+
+// How the weights change across the screen. Down the screen they change as across it with x for y and the corners the other way round.
 #[tactic(auto, unfolding(crate::specs::Gradients::slopes_x))]
-fn barycentric_dx(y: PerCorner, inv_area: f32) -> PerCorner
+fn weight_slopes(y: PerCorner, inv_area: f32) -> PerCorner
     ensures { result ≡ slopes_x y inv_area }
 {
     PerCorner {
@@ -53,19 +67,8 @@ fn barycentric_dx(y: PerCorner, inv_area: f32) -> PerCorner
     }
 }
 
-#[tactic(auto, unfolding(crate::specs::Gradients::slopes_y))]
-fn barycentric_dy(x: PerCorner, inv_area: f32) -> PerCorner
-    ensures { result ≡ slopes_y x inv_area }
-{
-    PerCorner {
-        a: (x.c - x.b) * inv_area,
-        b: (x.a - x.c) * inv_area,
-        c: (x.b - x.a) * inv_area,
-    }
-}
-
 // The corners' screen x and y, their 1/w, and 1/area.
-#[tactic(auto, unfolding(crate::specs::Gradients::derivatives_of))]
+#[tactic(auto, unfolding(crate::specs::Gradients::derivatives_of, crate::specs::Gradients::slopes_x, crate::specs::Gradients::slopes_y))]
 pub fn derivatives(
     x: PerCorner,
     y: PerCorner,
@@ -74,8 +77,8 @@ pub fn derivatives(
 ) -> TriangleDerivatives
     ensures { result ≡ derivatives_of x y inv_w inv_area }
 {
-    let dx = barycentric_dx(y, inv_area);
-    let dy = barycentric_dy(x, inv_area);
+    let dx = weight_slopes(y, inv_area);
+    let dy = weight_slopes(x.turned(), inv_area).turned();
     TriangleDerivatives {
         inv_w,
         barycentric_dx: dx,

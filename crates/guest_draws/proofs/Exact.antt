@@ -1,14 +1,15 @@
 -- What a draw reads and writes is 01's list, no less and no more. Assumes nothing.
 use mathlib.Core.Path.{◌≡◌, refl, sym, ◌∙◌}
 use mathlib.Core.Logic.{◌⊎◌, inl, inr}
-use mathlib.Core.Bool.{Bool, true, false, cond, true≢false}
+use mathlib.Core.Bool.{Bool, true, false, cond}
 use mathlib.Core.List.{List, [], ◌∷◌}
 use Prim.Native.Nat.{ℕ, zero, suc, ◌<◌, ◌≤◌}
 use native.Mathlib.Omega.{arith}
 use lib.Dec.{eqb, ltb, leb}
 use borrow.Author.Tests.{eqb-true, ltb-true, leb-true, lt-ltb}
+use Rattle.std.proofs.lemmas.Bool.{true≢false, false≢true}
 use Rattle.lists.specs.Lists.{tab}
-use Rattle.lists.proofs.Choice.{was_true, true_false}
+use Rattle.lists.proofs.Choice.{was_true}
 use Rattle.lists.proofs.Tables.{get_or_tab}
 use Rattle.levels.specs.declared.Texture.{Texture}
 use Rattle.settings.specs.declared.PipelineState.{PipelineState}
@@ -183,8 +184,8 @@ stages_do_fit width height colors depths s stages n e =
 few_units : (stages : List TextureStage) (n : ℕ) → stages_fit stages n ≡ true → (n ≤ 4) × ((i : ℕ) → i < n → (stage_at stages i).unit < 4)
 unfolding stages_fit stage_fits
 few_units stages n e =
-    let a = was_true (leb n 4) e (λ z. true_false (sym z)) in
-    (leb-true n 4 a.0, λ i b. ltb-true _ 4 (was_true (ltb (stage_at stages i).unit 4) (below_at _ n a.1 i b) (λ z. true_false (sym z))).0)
+    let a = was_true (leb n 4) e false≢true in
+    (leb-true n 4 a.0, λ i b. ltb-true _ 4 (was_true (ltb (stage_at stages i).unit 4) (below_at _ n a.1 i b) false≢true).0)
 
 pub stage_record : (x : DrawCall) (s : Shared) (f : ℕ → Texture) (i : ℕ) → eqb (early_number x s) 0 ≡ true → i < x.args.count
     → texture_at (stage_records x f) i ≡ f (name_at x (stage_at x.args.stages i).unit)

@@ -1,5 +1,5 @@
 -- The records that a draw's stages read hang on the textures that it names. Assumes nothing.
-use mathlib.Core.Path.{◌≡◌, refl, sym, ap, ap₂, ◌∙◌}
+use mathlib.Core.Path.{◌≡◌, refl, sym, ap, ◌∙◌}
 use mathlib.Core.Logic.{inl}
 use mathlib.Core.Bool.{Bool, true, false, cond}
 use mathlib.Core.List.{[], ◌∷◌, ◌++◌}
@@ -10,7 +10,7 @@ use lib.Dec.{ltb}
 use lib.ListN.{get_or-eq_default}
 use borrow.Author.Tests.{ltb-true}
 use Rattle.lists.specs.Lists.{tab}
-use Rattle.lists.proofs.Tables.{length_tab, get_or_tab}
+use Rattle.lists.proofs.Tables.{length_tab, get_or_tab, tab_same}
 use Rattle.levels.specs.declared.Texture.{Texture}
 use Rattle.levels.specs.Levels.{new_texture}
 use Rattle.isolation.specs.Machine.{In}
@@ -20,11 +20,6 @@ use Rattle.draw.specs.Draw.{bound_to}
 use Rattle.guest_draws.specs.Draw.{DrawCall, name_at, records_of, stage_records, names_of}
 
 -- ---- tables
-
-pub tab_same : {A : Type 0} (n : ℕ) (f g : ℕ → A) → ((i : ℕ) → i < n → f i ≡ g i) → tab n f ≡ tab n g
-unfolding tab
-tab_same zero f g h = refl
-tab_same (suc n) f g h = ap₂ (λ x y. x ++ (y ∷ [])) (tab_same n f g (λ i b. h i (omega arith))) (h n (omega arith))
 
 pub in_tab : {A : Type 0} (n : ℕ) (f : ℕ → A) (i : ℕ) → i < n → In (f i) (tab n f)
 unfolding tab

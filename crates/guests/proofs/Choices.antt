@@ -16,10 +16,6 @@ pub left : {A B : Type 0} (b : Bool) (x y : A) (u v : B) → (cond {A = A × B} 
 left true x y u v = refl
 left false x y u v = refl
 
-pub neither : (x : Bool) → cond x false false ≡ false
-neither true = refl
-neither false = refl
-
 pub once : (x y : Bool) → cond x (cond x y false) false ≡ cond x y false
 once true y = refl
 once false y = refl

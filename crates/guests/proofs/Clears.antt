@@ -1,4 +1,5 @@
 -- The two clears keep the laws of a call: what they leave at a pixel hangs on that pixel and the sizes. Assumes nothing.
+use Rattle.lists.proofs.Choice.{neither}
 use Rattle.std.specs.Prelude.{Option}
 use mathlib.Core.Path.{◌≡◌, refl, sym, ◌∙◌, subst}
 use mathlib.Core.Logic.{inl, inr}
@@ -23,7 +24,7 @@ use Rattle.frames.proofs.Pixels.{pixel_is_of, byte_of, at_depth}
 use Rattle.frames.proofs.Calls.{KeptOn, check_kept, owed_by}
 use Rattle.guests.specs.Calls.{Shared, answer_of, with_colors, with_depths, clear_color_number, clear_depth_number, BoxReads, box_writes}
 use Rattle.guests.specs.Guests.{Call, clear_color, clear_depth, meaning, InBox, InWindow, bad_target}
-use Rattle.guests.proofs.Choices.{chosen, left, same, neither, JustSizes}
+use Rattle.guests.proofs.Choices.{chosen, left, same, JustSizes}
 
 -- ---- what a clear leaves at an index
 

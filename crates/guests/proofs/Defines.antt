@@ -1,5 +1,6 @@
 -- Defining a level keeps the laws of a call: 9 looks at the arguments alone, the rest hangs on the texture's record and the sizes.
 -- Assumes nothing.
+use Rattle.lists.proofs.Choice.{neither}
 use Rattle.std.specs.Prelude.{Option}
 use mathlib.Core.Path.{◌≡◌, refl, sym, ap, ◌∙◌}
 use mathlib.Core.Logic.{inl, inr}
@@ -22,7 +23,7 @@ use Rattle.frames.proofs.Calls.{check_kept, owed_by}
 use Rattle.guests.specs.Calls as Calls
 use Rattle.guests.specs.Calls.{Shared, answer_of, with_texture, sides_check, define_number, DefineReads, define_touches}
 use Rattle.guests.specs.Guests.{define_level, meaning, InBox, InWindow, bad_target}
-use Rattle.guests.proofs.Choices.{same, neither, once, one_number, put_back, JustSizes, SizesAnd}
+use Rattle.guests.proofs.Choices.{same, once, one_number, put_back, JustSizes, SizesAnd}
 use Rattle.guests.proofs.Changes.{change, Stores, change_kept}
 
 module _ (n k w h place : ℕ) (rgba : List ℕ) where

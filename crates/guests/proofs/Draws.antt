@@ -1,4 +1,6 @@
 -- A draw in parts owes what every call owes: its fragments' law and their box are all that is left to show of a draw. Assumes nothing.
+use Rattle.lists.proofs.Choice.{neither}
+use Rattle.std.proofs.lemmas.Bool.{and_parts}
 use Rattle.std.specs.Prelude.{Option, Some, None}
 use mathlib.Core.Path.{◌≡◌, refl, sym, ap, ◌∙◌, subst}
 use mathlib.Core.Logic.{inl, inr}
@@ -13,7 +15,7 @@ use borrow.Author.Tests.{ltb-true}
 use Rattle.settings.specs.declared.ScissorBox.{ScissorBox}
 use Rattle.scissor.specs.Scissor.{in_box, pixel_in, bounds_of, in_bounds}
 use Rattle.scissor.specs.Check.{target_fits}
-use Rattle.scissor.proofs.Boxes.{split, bounds_are}
+use Rattle.scissor.proofs.Boxes.{bounds_are}
 use Rattle.scissor.proofs.Outcome.{target_is}
 use Rattle.isolation.specs.Machine.{Act, Guest, In}
 use Rattle.isolation.specs.Acts.{check}
@@ -22,16 +24,16 @@ use Rattle.frames.proofs.Calls.{KeptOn, check_kept, owed_by, paints_kept}
 use Rattle.guests.specs.Calls.{Shared}
 use Rattle.guests.specs.Guests.{draw, meaning, InBox, InWindow, bad_target, DrawOwes}
 use Rattle.guests.specs.Draws.{Draws, in_scissor, painting, DrawReads, draw_writes, draw_does, DrawLaws}
-use Rattle.guests.proofs.Choices.{same, neither, JustSizes}
+use Rattle.guests.proofs.Choices.{same, JustSizes}
 
 -- ---- a pixel in a box is one of the target
 
 on_target : (width height : ℕ) (b : Option ScissorBox) (p : ℕ) → pixel_in width height b p ≡ true → (p % width < width) × (p / width < height)
 unfolding in_box
 on_target width height None p e =
-    let t = split (ltb (p % width) width) (ltb (p / width) height) e in (ltb-true _ _ t.0, ltb-true _ _ t.1)
+    let t = and_parts (ltb (p % width) width) (ltb (p / width) height) e in (ltb-true _ _ t.0, ltb-true _ _ t.1)
 on_target width height (Some b) p e =
-    let t = split (ltb (p % width) width) (ltb (p / width) height) (split (ltb (p % width) width && ltb (p / width) height) _ e).0 in (ltb-true _ _ t.0, ltb-true _ _ t.1)
+    let t = and_parts (ltb (p % width) width) (ltb (p / width) height) (and_parts (ltb (p % width) width && ltb (p / width) height) _ e).0 in (ltb-true _ _ t.0, ltb-true _ _ t.1)
 
 below : (width height p : ℕ) → p % width < width → p / width < height → p < width * height
 below width height p a b = omega (arith, mod-add-div' p width, mul-le-mul_right width b, suc-mul (p / width) width, mul_comm width height)
@@ -48,8 +50,8 @@ room width height colors depths b p t e =
 -- a column and a row in the cut box make a pixel in the box
 in_box_wide : (width height : ℕ) (b : Option ScissorBox) (x y : ℕ) → in_box width height b x y ≡ true → x < width
 unfolding in_box
-in_box_wide width height None x y e = ltb-true x width (split (ltb x width) (ltb y height) e).0
-in_box_wide width height (Some b) x y e = ltb-true x width (split (ltb x width) (ltb y height) (split (ltb x width && ltb y height) _ e).0).0
+in_box_wide width height None x y e = ltb-true x width (and_parts (ltb x width) (ltb y height) e).0
+in_box_wide width height (Some b) x y e = ltb-true x width (and_parts (ltb x width) (ltb y height) (and_parts (ltb x width && ltb y height) _ e).0).0
 
 pub pixel_is_in : (width height : ℕ) (b : Option ScissorBox) (x y : ℕ) → in_bounds (bounds_of width height b) x y ≡ true → pixel_in width height b (y * width + x) ≡ true
 pixel_is_in width height b x y e =

@@ -1,5 +1,6 @@
 -- Patching a level keeps the laws of a call: its checks and its rows' places hang on the texture's record and the sizes.
 -- Assumes nothing.
+use Rattle.lists.proofs.Choice.{neither}
 use Rattle.std.specs.Prelude.{Option}
 use mathlib.Core.Path.{◌≡◌, refl, sym, ap, ◌∙◌}
 use mathlib.Core.Logic.{inl, inr}
@@ -22,7 +23,7 @@ use Rattle.frames.proofs.Calls.{check_kept, owed_by}
 use Rattle.guests.specs.Calls as Calls
 use Rattle.guests.specs.Calls.{Shared, answer_of, with_texture, patch_number, PatchReads, patch_touches}
 use Rattle.guests.specs.Guests.{patch_level, meaning, InBox, InWindow, bad_target}
-use Rattle.guests.proofs.Choices.{same, neither, once, put_back, SizesAnd}
+use Rattle.guests.proofs.Choices.{same, once, put_back, SizesAnd}
 use Rattle.guests.proofs.Changes.{change, Stores, change_kept}
 
 module _ (n k x y w h : ℕ) (rgba : List ℕ) where

@@ -1,4 +1,5 @@
 -- Setting a parameter keeps the laws of a call: it hangs on its texture's record alone. Assumes nothing.
+use Rattle.lists.proofs.Choice.{neither}
 use Rattle.std.specs.Prelude.{Option}
 use mathlib.Core.Path.{◌≡◌, refl, sym}
 use mathlib.Core.Logic.{inl, inr}
@@ -15,7 +16,7 @@ use Rattle.frames.proofs.Calls.{check_kept, owed_by}
 use Rattle.guests.specs.Calls as Calls
 use Rattle.guests.specs.Calls.{Shared, answer_of, with_texture, SetReads, set_touches}
 use Rattle.guests.specs.Guests.{set_parameter, meaning, InBox, InWindow, bad_target}
-use Rattle.guests.proofs.Choices.{same, neither, put_back, JustSizes}
+use Rattle.guests.proofs.Choices.{same, put_back, JustSizes}
 use Rattle.guests.proofs.Changes.{change, Stores, change_kept}
 
 module _ (n code value : ℕ) where

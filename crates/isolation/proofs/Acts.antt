@@ -2,19 +2,12 @@
 -- check needs them only where the check is passed. Assumes nothing.
 use mathlib.Core.Path.{◌≡◌, refl, sym, ap, ap₂, ◌∙◌}
 use mathlib.Core.Logic.{◌⊎◌, inl, inr}
-use mathlib.Core.Bool.{Bool, true, false, cond, ◌||◌, true≢false}
+use mathlib.Core.Bool.{Bool, true, false, cond, ◌||◌}
 use Prim.Native.Nat.{ℕ}
 use lib.Dec.{eqb}
+use Rattle.std.proofs.lemmas.Bool.{or_parts, or_cases, true≢false}
 use Rattle.isolation.specs.Machine.{Act, Places, Agree, Alike, Local}
 use Rattle.isolation.specs.Acts.{refuse, check, ◌then◌by◌}
-
-or_false : (x y : Bool) → (x || y) ≡ false → (x ≡ false) × (y ≡ false)
-or_false true y e = absurd (true≢false e)
-or_false false y e = (refl, e)
-
-pub or_true : (x y : Bool) → (x || y) ≡ true → (y ≡ true) ⊎ (x ≡ true)
-or_true true y e = inr refl
-or_true false y e = inl e
 
 module _ {State Answer Place : Type 0} (P : Places State Place) where
   pub record LocalOn (B : State → Type 0) (a : Act State Answer Place) : Type 0 where
@@ -81,7 +74,7 @@ module _ {State Answer Place : Type 0} (P : Places State Place) where
           record {
             answer = ap₂ f ka.answer kb.answer;
             footprint = λ l. ap₂ (λ u v. u || v) (ka.footprint l) (kb.footprint l);
-            written = λ l w. wrote ka kb l (or_true (a.writes s l) (b.writes (a.does s).1 l) w);
+            written = λ l w. wrote ka kb l (or_cases (a.writes s l) (b.writes (a.does s).1 l) w);
           }
         where
           seen : Alike P a s t → (l : Place) → b.Reads (a.does s).1 l → (u : Bool) → a.writes s l ≡ u → P.Same l (a.does s).1 (a.does t).1
@@ -89,14 +82,14 @@ module _ {State Answer Place : Type 0} (P : Places State Place) where
           seen ka l r false p = alike_keeps B a ha s t x y ka l (g l (inr (p, r)))
 
           wrote : Alike P a s t → Alike P b (a.does s).1 (a.does t).1 → (l : Place)
-              → (b.writes (a.does s).1 l ≡ true) ⊎ (a.writes s l ≡ true)
+              → (a.writes s l ≡ true) ⊎ (b.writes (a.does s).1 l ≡ true)
               → P.Same l (b.does (a.does s).1).1 (b.does (a.does t).1).1
-          wrote ka kb l (inl p) = kb.written l p
-          wrote ka kb l (inr p) = alike_keeps C b hb _ _ (on s x) (on t y) kb l (ka.written l p)
+          wrote ka kb l (inl p) = alike_keeps C b hb _ _ (on s x) (on t y) kb l (ka.written l p)
+          wrote ka kb l (inr p) = kb.written l p
 
       frame : (s : State) (l : Place) → B s → (a.writes s l || b.writes (a.does s).1 l) ≡ false → P.Same l s (b.does (a.does s).1).1
       frame s l x e =
-          let both : (a.writes s l ≡ false) × (b.writes (a.does s).1 l ≡ false) = or_false (a.writes s l) (b.writes (a.does s).1 l) e in
+          let both : (a.writes s l ≡ false) × (b.writes (a.does s).1 l ≡ false) = or_parts (a.writes s l) (b.writes (a.does s).1 l) e in
           P.same_trans l s _ _ (ha.frame_on s l x both.0) (hb.frame_on _ l (on s x) both.1)
 
   -- a call that does what another does, says that it writes the same places and reads no fewer, keeps the laws if the other does

@@ -24,6 +24,11 @@ module _ (b : List ℕ) where
   unfolding level_of read_texture
   level_above k h n = sym (kept_above (tab 11 (read_level b)) k h ∙ get_or_tab (read_level b) 11 k absent n)
 
+  pub level_past : (k : ℕ) → 10 < k → absent ≡ level_of (read_texture b) k
+  unfolding level_of read_texture
+  level_past k h =
+      sym (kept_above (tab 11 (read_level b)) k (omega arith) ∙ get_or-eq_default (tab 11 (read_level b)) absent (rw (length_tab (read_level b) 11) (omega arith)))
+
   module _ (lone : (k : ℕ) → 0 < k → k < 11 → word b (k * 20) ≡ 0) where
     absent_at : (k : ℕ) → 0 < k → k < 11 → (read_level b k).present ≡ false
     unfolding read_level

@@ -9,8 +9,8 @@ use lib.Dec.{eqb}
 use lib.ListN.{length, get_or, length-append, get_or-append}
 use lib.Seq.{get_or-append-add, ext_get_or}
 use borrow.Author.Tests.{eq-eqb, eqb-true}
+use Rattle.std.proofs.lemmas.Bool.{false≢true}
 use Rattle.std.proofs.Common.{Option, Some, None, Ok, is_some}
-use Rattle.lists.proofs.Choice.{true_false}
 use Rattle.lists.specs.Lists.{tab, flat}
 use Rattle.lists.proofs.Flats.{get_or_flat}
 use Rattle.lists.proofs.Rows.{length_flat}
@@ -254,7 +254,7 @@ known_length b e = here (eqb (length b) 244) refl e
     here : (c : Bool) → eqb (length b) 244 ≡ c
         → is_some (cond {A = Option Texture} c (cond (codes_known b) (Some (read_texture b)) None) None) ≡ true → length b ≡ 244
     here true q e = eqb-true (length b) 244 q
-    here false q e = absurd (true_false (sym e))
+    here false q e = absurd (false≢true e)
 
 -- and it is the record as it stands there
 pub known_texture : (b : List ℕ) → is_some (read_of b) ≡ true → read_of b ≡ Some (read_texture b)
@@ -263,4 +263,4 @@ known_texture b e = rw (eq-eqb (length b) 244 (known_length b e)) (here (codes_k
   where
     here : (c : Bool) → is_some (cond {A = Option Texture} c (Some (read_texture b)) None) ≡ true → cond c (Some (read_texture b)) None ≡ Some (read_texture b)
     here true e = refl
-    here false e = absurd (true_false (sym e))
+    here false e = absurd (false≢true e)

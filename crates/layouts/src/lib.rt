@@ -1,34 +1,43 @@
 // The byte layout of a texture record, as it crosses the C boundary (docs/INTERFACE.md).
 #![tactic(auto)]
 
-ghost use Rattle.std.specs.Prelude.{◌≡◌, ◌++◌, true, ℕ, ◌+◌, ◌*◌, ◌≤◌, ◌<◌, length, drop, is_some};
-ghost use Rattle.lists.specs.Lists.{tab, flat};
-ghost use Rattle.levels.specs.Levels.{level_of, valid_of};
+ghost use Rattle.std.specs.Prelude.{◌≡◌, true, ℕ, ◌+◌, ◌*◌, ◌≤◌, ◌<◌, length, take, drop, MatchOption};
+ghost use Rattle.lists.specs.Lists.{tab};
 ghost use Rattle.layouts.specs.Words.{word, long};
-ghost use Rattle.layouts.specs.Records.{read_level, codes_known, read_texture, read_of, level_bytes, level_bytes_at, rest_bytes, record_bytes};
+ghost use Rattle.layouts.specs.Records.{read_level, read_texture, read_of, level_bytes, rest_bytes, record_bytes};
 
-use levels::{Filter, MinFilter, MipLevel, Texture, Wrap};
+use levels::{Filter, MinFilter, MipLevel, Record, Texture, Wrap};
+
+// The N bytes at a place.
+fn bytes_at<const N: usize>(b: &[u8], at: usize) -> [u8; N]
+    requires { at + N ≤ length b.now }
+    ensures { result ≡ take N (drop at b.now) }
+{
+    <[u8; N]>::try_from(&b[at..at + N]).unwrap()
+}
 
 // Four bytes, the low one first.
+// Kept: replay's give 0 past an entry's end, which these need not test; std has no trait for `from_le_bytes` of each width. (2a)
 pub fn word_at(b: &[u8], at: usize) -> u32
-    requires { at + 4 ≤ length b.now }
+    requires { at + 4 ≤ length b.now } // Kept: the place is the caller's own sum; a type for a place in a slice would be made by this test for each use. (5a)
     ensures { result ≡ word b.now at }
 {
-    u32::from_le_bytes([b[at], b[at + 1], b[at + 2], b[at + 3]])
+    u32::from_le_bytes(bytes_at(b, at))
 }
 
 // Eight bytes, the low one first.
-#[tactic(auto, unfolding(crate::specs::Words::long))]
+// Kept: as in `word_at`. (2a)
 fn long_at(b: &[u8], at: usize) -> u64
-    requires { at + 8 ≤ length b.now }
+    requires { at + 8 ≤ length b.now } // Kept: as in `word_at`. (5a)
     ensures { result ≡ long b.now at }
 {
-    u64::from(word_at(b, at)) + 4294967296 * u64::from(word_at(b, at + 4))
+    u64::from_le_bytes(bytes_at(b, at))
 }
 
+// Kept: replay_sampling's `level_from` reads an entry's numbers, a word for each field and no place of eight bytes. (2b)
 #[tactic(auto, unfolding(crate::specs::Records::read_level))]
-fn level_at(b: &[u8], i: usize) -> MipLevel
-    requires { (i < 11) × (length b.now ≡ 244) }
+fn level_at(b: &[u8; 244], i: usize) -> MipLevel
+    requires { i < 11 } // Kept: a loop over the eleven and a test of `image_level` show it; a type for the index would hold it for one call each. (5a)
     ensures { result ≡ read_level b.now i }
 {
     let at = i * 20;
@@ -40,8 +49,8 @@ fn level_at(b: &[u8], i: usize) -> MipLevel
     }
 }
 
-fn levels_at(b: &[u8]) -> [MipLevel; 11]
-    requires { length b.now ≡ 244 }
+#[tactic(auto, using(lists::proofs::Tables::tab_none))]
+fn levels_at(b: &[u8; 244]) -> [MipLevel; 11]
     ensures { result ≡ tab 11 (read_level b.now) }
 {
     let mut out = [MipLevel::ABSENT; 11];
@@ -51,25 +60,12 @@ fn levels_at(b: &[u8]) -> [MipLevel; 11]
     out
 }
 
-#[tactic(auto, unfolding(crate::specs::Records::codes_known))]
-fn are_codes_known(b: &[u8]) -> bool
-    requires { length b.now ≡ 244 }
-    ensures { result ≡ codes_known b.now }
-{
-    MinFilter::try_from(word_at(b, 228)).is_ok()
-        && Filter::try_from(word_at(b, 232)).is_ok()
-        && Wrap::try_from(word_at(b, 236)).is_ok()
-        && Wrap::try_from(word_at(b, 240)).is_ok()
-}
-
 // The record that a layout holds.
 #[tactic(auto, using(std::proofs::lemmas::Bool::Decides::nat_tests), unfolding(crate::specs::Records::read_of, crate::specs::Records::codes_known, crate::specs::Records::read_texture))]
 pub fn read_record(b: &[u8]) -> Option<Texture>
     ensures { result ≡ read_of b.now }
 {
-    if b.len() != 244 {
-        return None;
-    }
+    let b = <&[u8; 244]>::try_from(b).ok()?;
     let min_filter = MinFilter::try_from(word_at(b, 228)).ok()?;
     let mag_filter = Filter::try_from(word_at(b, 232)).ok()?;
     let wrap_s = Wrap::try_from(word_at(b, 236)).ok()?;
@@ -84,29 +80,8 @@ pub fn read_record(b: &[u8]) -> Option<Texture>
     })
 }
 
-// Whether a layout holds a record.
-#[tactic(auto, using(std::proofs::lemmas::Bool::Decides::nat_tests), unfolding(crate::specs::Records::read_of))]
-pub fn is_known(b: &[u8]) -> bool
-    ensures { result ≡ is_some (read_of b.now) }
-{
-    b.len() == 244 && are_codes_known(b)
-}
-
-// Level k of the record that a layout holds.
-pub fn image_level_at(b: &[u8], k: usize) -> MipLevel
-    requires { (k < 11) × (length b.now ≡ 244) }
-    ensures { result ≡ level_of (read_texture b.now) k }
-{
-    let m = level_at(b, k);
-    MipLevel {
-        present: k == 0 || m.present,
-        ..m
-    }
-}
-
 // Whether levels 1 to 10 are absent.
-fn is_lone(b: &[u8]) -> bool
-    requires { length b.now ≡ 244 }
+fn is_lone(b: &[u8; 244]) -> bool
     ensures { result ≡ true → (k : ℕ) → 0 < k → k < 11 → word b.now (k * 20) ≡ 0 }
 {
     // Kept: `(1..11).all(..)` was tried, and its goal `returns` doesn't close: `search` leaves out which numbers a range yields. (3d)
@@ -118,22 +93,55 @@ fn is_lone(b: &[u8]) -> bool
     true
 }
 
-// Whether the record that a layout holds is valid over a store of `len` bytes. One of level 0 alone, the usual texture without mipmaps, is
-// told from the layout as it stands.
-pub fn is_valid_at(b: &[u8], len: usize) -> bool
-    requires { length b.now ≡ 244 }
-    ensures { result ≡ valid_of len (read_texture b.now) }
-{
-    if is_lone(b) {
-        let m = image_level_at(b, 0);
-        return levels::does_fit(m, len) && long_at(b, 220) == 0;
+// A layout that holds a record, told as it stands.
+#[derive(Clone, Copy, Debug, PartialEq, Eq, Hash)]
+pub struct Layout<'a> {
+    pub bytes: &'a [u8; 244],
+}
+
+impl<'a> Layout<'a> {
+    #[tactic(auto, using(std::proofs::lemmas::Bool::Decides::nat_tests), unfolding(crate::specs::Records::read_of, crate::specs::Records::codes_known))]
+    pub fn new(b: &'a [u8]) -> Option<Self>
+        ensures { MatchOption result (read_of b.now ≡ None) (λ x. (x.bytes.now ≡ b.now) × (read_of b.now ≡ Some (read_texture b.now))) }
+    {
+        let bytes = <&[u8; 244]>::try_from(b).ok()?;
+        MinFilter::try_from(word_at(bytes, 228)).ok()?;
+        Filter::try_from(word_at(bytes, 232)).ok()?;
+        Wrap::try_from(word_at(bytes, 236)).ok()?;
+        Wrap::try_from(word_at(bytes, 240)).ok()?;
+        Some(Layout { bytes })
     }
-    let texture = Texture {
-        levels: levels_at(b),
-        max_mipmap_level: long_at(b, 220) as usize,
-        ..Texture::new()
-    };
-    levels::is_valid(texture, len)
+}
+
+impl Record for Layout<'_> {
+    ghost texture = { λ x. read_texture x.bytes.now };
+
+    // A record of level 0 alone, the usual texture without mipmaps, is told without a copy of the levels.
+    // Kept: pub: a change may not ask more of callers, and the length is all that is read. (6b)
+    fn is_valid(self, len: usize) -> bool {
+        let b = self.bytes;
+        if is_lone(b) {
+            let m = self.image_level(0);
+            return levels::does_fit(m, len) && long_at(b, 220) == 0;
+        }
+        let texture = Texture {
+            levels: levels_at(b),
+            max_mipmap_level: long_at(b, 220) as usize,
+            ..Texture::new()
+        };
+        levels::is_valid(texture, len)
+    }
+
+    fn image_level(self, k: usize) -> MipLevel {
+        if 10 < k {
+            return MipLevel::ABSENT;
+        }
+        let m = level_at(self.bytes, k);
+        MipLevel {
+            present: k == 0 || m.present,
+            ..m
+        }
+    }
 }
 
 fn level_bytes(m: MipLevel) -> [u8; 20]
@@ -159,19 +167,12 @@ fn rest_bytes(texture: Texture) -> [u8; 24]
     out
 }
 
-fn put_levels(b: &mut [u8], levels: [MipLevel; 11])
-    requires { length b.old ≡ 244 }
-    ensures { b.new ≡ flat 11 (level_bytes_at levels) ++ drop 220 b.old }
-{
-    for (i, m) in levels.iter().enumerate() {
-        texture::copy_in(b, i * 20, &level_bytes(*m));
-    }
-}
-
 pub fn write_record(b: &mut [u8], texture: Texture)
     requires { length b.old ≡ 244 }
     ensures { b.new ≡ record_bytes texture }
 {
-    put_levels(b, texture.levels);
+    for (i, m) in texture.levels.iter().enumerate() {
+        texture::copy_in(b, i * 20, &level_bytes(*m));
+    }
     texture::copy_in(b, 220, &rest_bytes(texture));
 }

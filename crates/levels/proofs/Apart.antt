@@ -1,19 +1,21 @@
 -- Levels that are held apart: the walk over pairs, what it says of two levels, and that levels in order of place are apart. Assumes nothing.
 use mathlib.Core.Bool.{Bool, true, false, cond}
-use mathlib.Core.Path.{◌≡◌, refl, sym}
+use mathlib.Core.Path.{◌≡◌, refl}
 use mathlib.Core.List.{List, [], ◌∷◌}
 use Prim.Native.Nat.{ℕ, zero, suc, ◌+◌, ◌*◌, ◌≤◌, ◌<◌}
 use native.Mathlib.Numerals.{add-one}
 use native.Mathlib.Nat.{zero-mul, mul-zero}
 use native.Mathlib.Omega.{arith}
 use lib.Dec.{ltb, eqb}
-use borrow.Author.Tests.{lt-ltb, le-ltb, leb-true}
+use borrow.Author.Tests.{lt-ltb, le-ltb, leb-true, le-leb, lt-leb}
 use lib.ListN.{length, get_or, drop, drop_of_length-le}
 use lib.Seq.{drop-cons}
+use Rattle.std.proofs.lemmas.Bool.{true≢false, false≢true}
 use Rattle.lists.specs.Lists.{any}
-use Rattle.lists.proofs.Choice.{was_true, was_false, true_false}
+use Rattle.lists.proofs.Choice.{was_true, was_false, neither}
 use Rattle.lists.proofs.Members.{any_get_or, get_d_any}
 use Rattle.levels.specs.declared.MipLevel.{MipLevel}
+use Rattle.std.proofs.lemmas.Bool.{false≢true}
 use Rattle.levels.specs.Levels.{absent, size_of, complete, overlap, overlaps, apart, starts_at, end_of, ascending}
 
 module _ (l : List MipLevel) (i : ℕ) where
@@ -44,6 +46,28 @@ module _ (l : List MipLevel) (i end : ℕ) where
   unfolding ascending
   ascending_end h = rw (drop_of_length-le l h)
 
+-- where the next level starts, and where the bytes end behind it
+module _ (end : ℕ) (m : MipLevel) where
+  pub starts_in : complete m ≡ true → end ≤ m.place → starts_at end m ≡ true
+  unfolding starts_at
+  starts_in e h = rw e (le-leb end m.place h)
+
+  pub starts_late : complete m ≡ true → m.place < end → starts_at end m ≡ false
+  unfolding starts_at
+  starts_late e h = rw e (lt-leb end m.place h)
+
+  pub starts_idle : complete m ≡ false → starts_at end m ≡ true
+  unfolding starts_at
+  starts_idle e = rw e
+
+  pub end_in : complete m ≡ true → end_of end m ≡ m.place + size_of m
+  unfolding end_of
+  end_in e = rw e
+
+  pub end_idle : complete m ≡ false → end_of end m ≡ end
+  unfolding end_of
+  end_idle e = rw e
+
 -- a level has bytes only if it is complete
 incomplete_size : (m : MipLevel) → complete m ≡ false → m.present ≡ true → size_of m ≡ 0
 unfolding complete size_of
@@ -52,16 +76,13 @@ incomplete_size m e p = zero_side_is m.height m.width (rw p at e)
     zero_side_is : (h w : ℕ) → cond (ltb 0 w) (ltb 0 h) false ≡ false → h * w * 4 ≡ 0
     zero_side_is zero w e = rw (zero-mul w)
     zero_side_is (suc h) zero e = rw (mul-zero (suc h))
-    zero_side_is (suc h) (suc w) e = absurd (true_false (rw (lt-ltb 0 (suc w) (omega arith), lt-ltb 0 (suc h) (omega arith)) at e))
+    zero_side_is (suc h) (suc w) e = absurd (true≢false (rw (lt-ltb 0 (suc w) (omega arith), lt-ltb 0 (suc h) (omega arith)) at e))
 
 -- tests that end in false both ways
-idle : (p : Bool) → cond p false false ≡ false
-idle true = refl
-idle false = refl
-
-idle_2 : (p q : Bool) → cond p false (cond q false false) ≡ false
+-- Kept: two cases of `refl`; one lemma below them all would take a line of import in each of five files for these three. (8e)
+pub idle_2 : (p q : Bool) → cond p false (cond q false false) ≡ false
 idle_2 true q = refl
-idle_2 false q = idle q
+idle_2 false q = neither q
 
 overlap_empty : (a n b m : ℕ) → n ≡ 0 → overlap a n b m ≡ false
 unfolding overlap
@@ -69,7 +90,7 @@ overlap_empty a n b m e = rw e
 
 overlap_empty_2 : (a n b m : ℕ) → m ≡ 0 → overlap a n b m ≡ false
 unfolding overlap
-overlap_empty_2 a n b m e = rw e (idle (eqb n 0))
+overlap_empty_2 a n b m e = rw e (neither (eqb n 0))
 
 overlap_after : (a n b m : ℕ) → a + n ≤ b → overlap a n b m ≡ false
 unfolding overlap
@@ -89,9 +110,6 @@ module _ (a b : MipLevel) where
   pub after_apart : (complete a ≡ true → complete b ≡ true → a.place + size_of a ≤ b.place) → overlaps a b ≡ false
   after_apart h = known a.present b.present (complete a) (complete b) refl refl refl refl h
 
-false_true : ◌≡◌ {A = Bool} false true → ⊥
-false_true e = true_false (sym e)
-
 starts_after : (end : ℕ) (m : MipLevel) → starts_at end m ≡ true → complete m ≡ true → end ≤ m.place
 unfolding starts_at
 starts_after end m e h = leb-true end m.place (rw h at e)
@@ -101,16 +119,12 @@ unfolding end_of
 end_grows end m e true h = let g = starts_after end m e h in rw h (omega arith)
 end_grows end m e false h = rw h (omega arith)
 
-end_complete : (end : ℕ) (m : MipLevel) → complete m ≡ true → end_of end m ≡ m.place + size_of m
-unfolding end_of
-end_complete end m h = rw h
-
 -- a level that has ended by `end` overlaps none of those that ascend from there
 before_all : (a : MipLevel) (end : ℕ) (l : List MipLevel) → (complete a ≡ true → a.place + size_of a ≤ end) → ascending end l ≡ true → any (overlaps a) l ≡ false
 unfolding any ascending
 before_all a end [] h e = refl
 before_all a end (b ∷ l) h e =
-    let s = was_true (starts_at end b) e false_true in
+    let s = was_true (starts_at end b) e false≢true in
     let first : overlaps a b ≡ false = after_apart a b (λ x y. omega (arith, h x, starts_after end b s.0 y)) in
     rw first (before_all a (end_of end b) l (λ x. omega (arith, h x, end_grows end b s.0 (complete b) refl)) s.1)
 
@@ -118,22 +132,22 @@ pub ascending_apart : (l : List MipLevel) (end : ℕ) → ascending end l ≡ tr
 unfolding apart ascending
 ascending_apart [] end e = refl
 ascending_apart (a ∷ l) end e =
-    let s = was_true (starts_at end a) e false_true in
-    rw (before_all a (end_of end a) l (λ x. omega (arith, end_complete end a x)) s.1) (ascending_apart l (end_of end a) s.1)
+    let s = was_true (starts_at end a) e false≢true in
+    rw (before_all a (end_of end a) l (λ x. omega (arith, end_in end a x)) s.1) (ascending_apart l (end_of end a) s.1)
 
 -- ---- apart, by pairs
 
 overlaps_absent : (m : MipLevel) → overlaps m absent ≡ false
 unfolding overlaps
-overlaps_absent m = idle m.present
+overlaps_absent m = neither m.present
 
 pub apart_at : (l : List MipLevel) → apart l ≡ true → (i j : ℕ) → i < j → overlaps (get_or l i absent) (get_or l j absent) ≡ false
 unfolding apart
 apart_at [] e i j h = overlaps_absent absent
 apart_at (m ∷ l) e i zero h = absurd (omega arith)
 apart_at (m ∷ l) e zero (suc j) h =
-    any_get_or (overlaps m) absent l (was_false (any (overlaps m) l) e false_true).0 (overlaps_absent m) j
-apart_at (m ∷ l) e (suc i) (suc j) h = apart_at l (was_false (any (overlaps m) l) e false_true).1 i j (omega arith)
+    any_get_or (overlaps m) absent l (was_false (any (overlaps m) l) e false≢true).0 (overlaps_absent m) j
+apart_at (m ∷ l) e (suc i) (suc j) h = apart_at l (was_false (any (overlaps m) l) e false≢true).1 i j (omega arith)
 
 pub apart_make : (l : List MipLevel) → ((i j : ℕ) → i < j → overlaps (get_or l i absent) (get_or l j absent) ≡ false) → apart l ≡ true
 unfolding apart

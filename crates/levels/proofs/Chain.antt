@@ -1,13 +1,14 @@
 -- The chain's walk, step by step, and what it says of the levels that it passes. Assumes nothing.
 use mathlib.Core.Bool.{Bool, true, false, cond}
-use mathlib.Core.Path.{◌≡◌, refl, sym}
+use mathlib.Core.Path.{◌≡◌, refl}
 use mathlib.Core.List.{List, [], ◌∷◌}
 use Prim.Native.Nat.{ℕ, zero, suc, ◌+◌, ◌≤◌, ◌<◌}
 use native.Mathlib.Numerals.{add-one}
 use native.Mathlib.Omega.{arith}
 use lib.ListN.{length, get_or, drop, drop_of_length-le}
 use lib.Seq.{drop-cons}
-use Rattle.lists.proofs.Choice.{was_true, was_false, true_false}
+use Rattle.lists.proofs.Choice.{was_true, was_false}
+use Rattle.std.proofs.lemmas.Bool.{false≢true}
 use Rattle.levels.specs.declared.MipLevel.{MipLevel}
 use Rattle.levels.specs.Levels.{absent, complete, single, follows, climb, top_of}
 
@@ -35,12 +36,9 @@ unfolding top_of
 top_none [] d e = refl
 top_none (m ∷ l) d e = rw e
 
-false_true : ◌≡◌ {A = Bool} false true → ⊥
-false_true e = true_false (sym e)
-
 follows_complete : (w h : ℕ) (m : MipLevel) → follows w h m ≡ true → complete m ≡ true
 unfolding follows
-follows_complete w h m e = (was_true (complete m) (was_false (single w h) e false_true).1 false_true).0
+follows_complete w h m e = (was_true (complete m) (was_false (single w h) e false≢true).1 false≢true).0
 
 -- the walk goes no further than the levels do
 climb_bound : (k w h : ℕ) (l : List MipLevel) → climb k w h l ≤ k + length l

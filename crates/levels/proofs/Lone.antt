@@ -6,6 +6,7 @@ use Prim.Native.Nat.{ℕ, zero, suc, ◌<◌}
 use native.Mathlib.Omega.{arith}
 use lib.Dec.{eqb}
 use lib.ListN.{get_or}
+use Rattle.lists.proofs.Choice.{neither}
 use Rattle.lists.specs.Lists.{any, all}
 use Rattle.levels.specs.declared.MipLevel.{MipLevel}
 use Rattle.levels.specs.Levels.{absent, levels_of, complete, follows, single, climb, top_of, fits, overlaps, apart, valid_levels}
@@ -14,10 +15,6 @@ use Rattle.levels.specs.Levels.{absent, levels_of, complete, follows, single, cl
 abbrev pub Gone : List MipLevel → Type 0
 Gone l = (i : ℕ) → (get_or l i absent).present ≡ false
 
-idle : (p : Bool) → cond p false false ≡ false
-idle true = refl
-idle false = refl
-
 module _ (m : MipLevel) (e : m.present ≡ false) where
   gone_fits : (n : ℕ) → fits n m ≡ true
   unfolding fits
@@ -25,7 +22,7 @@ module _ (m : MipLevel) (e : m.present ≡ false) where
 
   gone_apart : (a : MipLevel) → overlaps a m ≡ false
   unfolding overlaps
-  gone_apart a = rw e (idle a.present)
+  gone_apart a = rw e (neither a.present)
 
   gone_incomplete : complete m ≡ false
   unfolding complete
@@ -49,7 +46,7 @@ all_apart (m ∷ l) g = rw (none_overlap m l (λ i. g (suc i))) (all_apart l (λ
 no_climb : (w h : ℕ) (l : List MipLevel) → Gone l → climb 0 w h l ≡ 0
 unfolding climb follows
 no_climb w h [] g = refl
-no_climb w h (m ∷ l) g = rw (gone_incomplete m (g 0), idle (single w h))
+no_climb w h (m ∷ l) g = rw (gone_incomplete m (g 0), neither (single w h))
 
 same_both : (p : Bool) → cond {A = ℕ} p 0 0 ≡ 0
 same_both true = refl

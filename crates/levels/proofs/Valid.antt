@@ -1,5 +1,5 @@
 -- What validity says of each kept level. Assumes nothing.
-use mathlib.Core.Bool.{Bool, true, false}
+use mathlib.Core.Bool.{true, false}
 use mathlib.Core.Path.{◌≡◌, refl, sym, ◌∙◌}
 use mathlib.Core.List.{List, [], ◌∷◌}
 use Prim.Native.Nat.{ℕ, ◌+◌, ◌≤◌, ◌<◌}
@@ -7,22 +7,21 @@ use native.Mathlib.Omega.{arith}
 use lib.Dec.{leb, ltb, leb-zero}
 use lib.ListN.{length, get_or, set}
 use borrow.Author.Tests.{leb-true, leb-false, ltb-true, eqb-true, le-leb, lt-ltb, le-ltb, eq-eqb}
+use Rattle.std.proofs.lemmas.Bool.{false≢true}
 use Rattle.lists.specs.Lists.{any, all}
-use Rattle.lists.proofs.Choice.{was_true, true_false}
+use Rattle.lists.proofs.Choice.{was_true}
 use Rattle.lists.proofs.Members.{all_get_d}
+use Rattle.std.proofs.lemmas.Bool.{false≢true}
 use Rattle.levels.specs.declared.MipLevel.{MipLevel}
 use Rattle.levels.specs.declared.Texture.{Texture}
 use Rattle.levels.proofs.Chain.{chain_complete, top_bound}
 use Rattle.levels.specs.Levels.{absent, levels_of, level_of, size_of, new_texture, complete, top_of, fits, Fits, overlap, overlaps, apart, valid_levels, valid_of}
 
-false_true : ◌≡◌ {A = Bool} false true → ⊥
-false_true e = true_false (sym e)
-
 pub fits_known : (n : ℕ) (m : MipLevel) → fits n m ≡ true → m.present ≡ true → Fits n m
 unfolding fits size_of
 fits_known n m e p =
-    let a = was_true (leb m.width 1024) (rw p at e) false_true in
-    let b = was_true (leb m.height 1024) a.1 false_true in
+    let a = was_true (leb m.width 1024) (rw p at e) false≢true in
+    let b = was_true (leb m.height 1024) a.1 false≢true in
     record {
       wide = leb-true m.width 1024 a.0;
       high = leb-true m.height 1024 b.0;
@@ -43,32 +42,32 @@ levels_are (m ∷ l) h = refl
 
 pub complete_present : (m : MipLevel) → complete m ≡ true → m.present ≡ true
 unfolding complete
-complete_present m e = (was_true m.present e false_true).0
+complete_present m e = (was_true m.present e false≢true).0
 
 pub complete_wide : (m : MipLevel) → complete m ≡ true → 0 < m.width
 unfolding complete
-complete_wide m e = ltb-true 0 m.width (was_true (ltb 0 m.width) (was_true m.present e false_true).1 false_true).0
+complete_wide m e = ltb-true 0 m.width (was_true (ltb 0 m.width) (was_true m.present e false≢true).1 false≢true).0
 
 pub complete_high : (m : MipLevel) → complete m ≡ true → 0 < m.height
 unfolding complete
-complete_high m e = ltb-true 0 m.height (was_true (ltb 0 m.width) (was_true m.present e false_true).1 false_true).1
+complete_high m e = ltb-true 0 m.height (was_true (ltb 0 m.width) (was_true m.present e false≢true).1 false≢true).1
 
 -- ---- what a valid record is known by
 
 module _ (n : ℕ) (t : Texture) (v : valid_of n t ≡ true) where
   pub valid_fits : all (fits n) (levels_of t.levels) ≡ true
   unfolding valid_of valid_levels
-  valid_fits = (was_true (all (fits n) (levels_of t.levels)) v false_true).0
+  valid_fits = (was_true (all (fits n) (levels_of t.levels)) v false≢true).0
 
   pub valid_apart : apart (levels_of t.levels) ≡ true
   unfolding valid_of valid_levels
-  valid_apart = (was_true (apart (levels_of t.levels)) (was_true (all (fits n) (levels_of t.levels)) v false_true).1 false_true).0
+  valid_apart = (was_true (apart (levels_of t.levels)) (was_true (all (fits n) (levels_of t.levels)) v false≢true).1 false≢true).0
 
   pub valid_top : t.max_mipmap_level ≡ top_of (levels_of t.levels)
   unfolding valid_of valid_levels
   valid_top =
-      let a = was_true (all (fits n) (levels_of t.levels)) v false_true in
-      let b = was_true (apart (levels_of t.levels)) a.1 false_true in
+      let a = was_true (all (fits n) (levels_of t.levels)) v false≢true in
+      let b = was_true (apart (levels_of t.levels)) a.1 false≢true in
       eqb-true t.max_mipmap_level (top_of (levels_of t.levels)) b.1
 
   -- a kept level has sides of at most 1,024 and its bytes within the store

@@ -5,7 +5,8 @@
 ghost use Rattle.std.specs.Prelude.{◌≡◌, true, ◌+◌, ◌≤◌, ◌<◌, length, get_or, drop, false, MatchOption};
 ghost use Rattle.lists.specs.Lists.{any, all};
 ghost use Rattle.levels.specs.Codes.{min_filter_of, filter_of, wrap_of, min_code, mag_code, wrap_code};
-ghost use Rattle.levels.specs.Levels.{absent, levels_of, size_of, texels_of, new_texture, complete, half, single, follows, top_of, overlap, overlaps, apart, starts_at, end_of, ascending, fits, valid_levels, valid_of, Fits};
+ghost use Rattle.levels.specs.declared.Texture.{Texture};
+ghost use Rattle.levels.specs.Levels.{absent, level_of, levels_of, size_of, texels_of, new_texture, complete, half, single, follows, top_of, overlap, overlaps, apart, ascending, fits, valid_levels, valid_of, Fits};
 
 use answers::Refusal;
 
@@ -38,6 +39,7 @@ impl TryFrom<u32> for Filter {
 
     ghost try_from_gives = { λ code r. r ≡ filter_of code };
 
+    // Kept: each type reads its own codes, as the trait asks: one impl for a type. (2c)
     #[tactic(auto, using(std::proofs::lemmas::Bool::Decides::nat_tests), unfolding(crate::specs::Codes::filter_of))]
     fn try_from(code: u32) -> Result<Self, Refusal> {
         match code {
@@ -53,6 +55,7 @@ impl TryFrom<u32> for MinFilter {
 
     ghost try_from_gives = { λ code r. r ≡ min_filter_of code };
 
+    // Kept: each type reads its own codes, as the trait asks: one impl for a type. (2c)
     #[tactic(auto, using(std::proofs::lemmas::Bool::Decides::nat_tests), unfolding(crate::specs::Codes::min_filter_of))]
     fn try_from(code: u32) -> Result<Self, Refusal> {
         match code {
@@ -72,6 +75,7 @@ impl TryFrom<u32> for Wrap {
 
     ghost try_from_gives = { λ code r. r ≡ wrap_of code };
 
+    // Kept: each type reads its own codes, as the trait asks: one impl for a type. (2c)
     #[tactic(auto, using(std::proofs::lemmas::Bool::Decides::nat_tests), unfolding(crate::specs::Codes::wrap_of))]
     fn try_from(code: u32) -> Result<Self, Refusal> {
         match code {
@@ -85,6 +89,7 @@ impl TryFrom<u32> for Wrap {
 impl From<Filter> for u32 {
     ghost from_gives = { λ f r. r ≡ mag_code f };
 
+    // Kept: each type writes its own codes, as the trait asks: one impl for a type. (2c)
     fn from(f: Filter) -> u32 {
         match f {
             Filter::Nearest => consts::GL_NEAREST,
@@ -96,6 +101,7 @@ impl From<Filter> for u32 {
 impl From<MinFilter> for u32 {
     ghost from_gives = { λ f r. r ≡ min_code f };
 
+    // Kept: each type writes its own codes, as the trait asks: one impl for a type. (2c)
     fn from(f: MinFilter) -> u32 {
         match f {
             MinFilter::Nearest => consts::GL_NEAREST,
@@ -111,6 +117,7 @@ impl From<MinFilter> for u32 {
 impl From<Wrap> for u32 {
     ghost from_gives = { λ w r. r ≡ wrap_code w };
 
+    // Kept: each type writes its own codes, as the trait asks: one impl for a type. (2c)
     fn from(w: Wrap) -> u32 {
         match w {
             Wrap::Repeat => consts::GL_REPEAT,
@@ -126,7 +133,7 @@ impl From<Wrap> for u32 {
 #[derive(Clone, Copy, Debug, PartialEq, Eq, Hash)]
 pub struct MipLevel {
     pub present: bool,
-    pub place: usize,
+    pub place: usize, // Kept: a record of the C interface, copied over the boundary, has a place in the store and cannot hold a loan of it. (6e)
     pub width: u32,
     pub height: u32,
 }
@@ -143,7 +150,7 @@ impl MipLevel {
 #[derive(Clone, Copy, Debug, PartialEq, Eq, Hash)]
 pub struct Texture {
     pub levels: [MipLevel; 11],
-    pub max_mipmap_level: usize,
+    pub max_mipmap_level: usize, // Kept: the record of the C interface has any number here; `is_valid` tells. (6e)
     pub min_filter: MinFilter,
     pub mag_filter: Filter,
     pub wrap_s: Wrap,
@@ -152,6 +159,7 @@ pub struct Texture {
 
 impl Texture {
     // Level 0 is 0 by 0 at place 0.
+    // Kept: its callers name it; `Default` would be a second name for the same record, and nothing here takes a `T: Default`. (4m)
     #[tactic(auto, unfolding(crate::specs::Levels::new_texture, crate::specs::Levels::levels_of))]
     pub fn new() -> Self
         ensures { result ≡ new_texture }
@@ -176,15 +184,17 @@ pub fn kept_levels(mut levels: [MipLevel; 11]) -> [MipLevel; 11]
     levels
 }
 
-// Level k of a texture.
+// Level k of a texture: absent past the last.
 pub fn image_level(levels: [MipLevel; 11], k: usize) -> MipLevel
-    requires { k < 11 }
     ensures { result ≡ get_or (levels_of levels) k absent }
 {
-    let kept = kept_levels(levels);
-    kept[k]
+    kept_levels(levels)
+        .get(k)
+        .copied()
+        .unwrap_or(MipLevel::ABSENT)
 }
 
+#[tactic(auto, unfolding(crate::specs::Levels::size_of))]
 pub fn size_of(m: MipLevel) -> usize
     requires { (m.width ≤ 1024) × (m.height ≤ 1024) }
     ensures { result ≡ size_of m }
@@ -243,9 +253,8 @@ pub fn calculate_max_complete_mipmap_level(levels: [MipLevel; 11]) -> usize
     }
     let mut width = first.width;
     let mut height = first.height;
-    for level in 0..10 {
-        let next = levels[level + 1];
-        if !does_follow(width, height, next) {
+    for (level, next) in levels[1..].iter().enumerate() {
+        if !does_follow(width, height, *next) {
             return level;
         }
         width = next.width;
@@ -256,6 +265,7 @@ pub fn calculate_max_complete_mipmap_level(levels: [MipLevel; 11]) -> usize
 
 // ---- validity
 
+// Kept: pub: a change may not ask more of callers, and the length is all that is read. (6b)
 #[tactic(auto, using(std::proofs::lemmas::Bool::Decides::nat_tests), unfolding(crate::specs::Levels::fits))]
 pub fn does_fit(m: MipLevel, len: usize) -> bool
     ensures { result ≡ fits len m }
@@ -270,44 +280,17 @@ pub fn does_fit(m: MipLevel, len: usize) -> bool
     size <= len && m.place <= len - size
 }
 
-// Whether n bytes at a and m bytes at b have a byte in common, where both runs end within a store of `len` bytes.
+// Whether n bytes at a and m bytes at b have a byte in common.
 #[tactic(auto, using(std::proofs::lemmas::Bool::Decides::nat_tests), unfolding(crate::specs::Levels::overlap))]
-fn do_overlap(a: usize, n: usize, b: usize, m: usize, len: usize) -> bool
-    requires { (a + n ≤ len) × (b + m ≤ len) }
+fn do_overlap(a: usize, n: usize, b: usize, m: usize) -> bool
     ensures { result ≡ overlap a n b m }
 {
-    n != 0 && m != 0 && b < a + n && a < b + m
-}
-
-#[tactic(auto, unfolding(crate::specs::Levels::overlaps))]
-fn levels_overlap(a: MipLevel, b: MipLevel, len: usize) -> bool
-    requires { (fits len a ≡ true) × (fits len b ≡ true) }
-    ensures { result ≡ overlaps a b }
-{
-    a.present && b.present && do_overlap(a.place, size_of(a), b.place, size_of(b), len)
-}
-
-#[tactic(auto, using(std::proofs::lemmas::Bool::Decides::nat_tests), unfolding(crate::specs::Levels::starts_at))]
-fn does_start(m: MipLevel, end: usize) -> bool
-    ensures { result ≡ starts_at end m }
-{
-    !is_complete(m) || end <= m.place
-}
-
-#[tactic(auto, unfolding(crate::specs::Levels::end_of))]
-fn end_of(m: MipLevel, end: usize, len: usize) -> usize
-    requires { fits len m ≡ true }
-    ensures { result ≡ end_of end m }
-{
-    if is_complete(m) {
-        m.place + size_of(m)
-    } else {
-        end
-    }
+    n != 0 && m != 0 && if a <= b { b - a < n } else { a - b < m }
 }
 
 // Levels that all lie within a store of `len` bytes.
-#[derive(Clone, Copy)]
+// Kept: `len` is the store's length in bytes, no count of the levels. (6a)
+#[derive(Clone, Copy, Debug, PartialEq, Eq, Hash)]
 pub struct Stored {
     pub levels: [MipLevel; 11],
     pub len: usize,
@@ -316,6 +299,7 @@ pub struct Stored {
 
 impl Stored {
     // The levels as stored, where they all fit.
+    // Kept: is_valid's own length, handed on. (6b)
     fn new(levels: [MipLevel; 11], len: usize) -> Option<Self>
         ensures { MatchOption result (all (fits len) levels ≡ false) (λ s. (s.levels ≡ levels) × (s.len ≡ len)) }
     {
@@ -326,13 +310,22 @@ impl Stored {
         }
     }
 
+    // Whether two levels within the store overlap.
+    #[tactic(auto, unfolding(crate::specs::Levels::overlaps))]
+    fn overlap(self, a: MipLevel, b: MipLevel) -> bool
+        requires { (fits self.len a ≡ true) × (fits self.len b ≡ true) }
+        ensures { result ≡ overlaps a b }
+    {
+        a.present && b.present && do_overlap(a.place, size_of(a), b.place, size_of(b))
+    }
+
     // Whether m overlaps a level from `from` on.
     pub fn any_overlap(self, from: usize, m: MipLevel) -> bool
         requires { (from ≤ 11) × (fits self.len m ≡ true) }
         ensures { result ≡ any (overlaps m) (drop from self.levels) }
     {
         for other in &self.levels[from..] {
-            if levels_overlap(m, *other, self.len) {
+            if self.overlap(m, *other) {
                 return true;
             }
         }
@@ -356,10 +349,12 @@ impl Stored {
     {
         let mut end: usize = 0;
         for m in &self.levels {
-            if !does_start(*m, end) {
-                return false;
+            if is_complete(*m) {
+                if m.place < end {
+                    return false;
+                }
+                end = m.place + size_of(*m);
             }
-            end = end_of(*m, end, self.len);
         }
         true
     }
@@ -371,6 +366,7 @@ impl Stored {
     }
 }
 
+// Kept: is_valid's own length, handed on. (6b)
 #[tactic(auto, unfolding(crate::specs::Levels::valid_levels))]
 fn are_valid(levels: [MipLevel; 11], top: usize, len: usize) -> bool
     ensures { result ≡ valid_levels len levels top }
@@ -382,9 +378,38 @@ fn are_valid(levels: [MipLevel; 11], top: usize, len: usize) -> bool
 }
 
 // Whether a record is one that document 01 takes, over a store of `len` bytes: refusal 8 where it is not.
+// Kept: pub: a change may not ask more of callers, and the length is all that is read. (6b)
 #[tactic(auto, unfolding(crate::specs::Levels::valid_of))]
 pub fn is_valid(texture: Texture, len: usize) -> bool
     ensures { result ≡ valid_of len texture }
 {
     are_valid(kept_levels(texture.levels), texture.max_mipmap_level, len)
+}
+
+// A texture's record, however it is kept.
+pub trait Record: Copy {
+    ghost texture: { Self → Texture };
+
+    // Whether it is valid over a store of `len` bytes.
+    // Kept: pub: a change may not ask more of callers, and the length is all that is read. (6b)
+    fn is_valid(self, len: usize) -> bool
+        ensures { result ≡ valid_of len (texture self) };
+
+    // Level k: absent past the last.
+    fn image_level(self, k: usize) -> MipLevel
+        ensures { result ≡ level_of (texture self) k };
+}
+
+impl Record for Texture {
+    ghost texture = { λ t. t };
+
+    // Kept: pub: a change may not ask more of callers, and the length is all that is read. (6b)
+    fn is_valid(self, len: usize) -> bool {
+        is_valid(self, len)
+    }
+
+    #[tactic(auto, unfolding(crate::specs::Levels::level_of))]
+    fn image_level(self, k: usize) -> MipLevel {
+        image_level(self.levels, k)
+    }
 }

@@ -4,7 +4,6 @@ pub mod Rows
 pub mod Turns
 pub mod Search
 pub mod Members
-pub mod Paste
 pub mod Parts
 pub mod Stores
 pub mod Cells

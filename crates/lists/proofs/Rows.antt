@@ -2,11 +2,12 @@
 use mathlib.Core.Path.{◌≡◌, sym, ◌∙◌}
 use mathlib.Core.List.{List, ◌++◌, append-nil}
 use Prim.Native.Nat.{ℕ, zero, suc, ◌+◌, ◌*◌, ◌≤◌, ◌<◌}
-use native.Mathlib.Nat.{zero-mul, suc-mul, le_refl, mul-le-mul_right}
+use native.Mathlib.Nat.{zero-mul, suc-mul, le_refl}
 use native.Mathlib.Numerals.{add-one}
 use native.Mathlib.Omega.{arith}
 use lib.ListN.{length, take, drop, length-append, drop_of_length-le}
 use lib.Seq.{paste, take_at, take_all, drop-append-add, drop-drop}
+use Rattle.std.proofs.lemmas.Nat.{row_fits}
 use Rattle.lists.specs.Lists.{flat}
 
 module _ {A : Type 0} (k : ℕ) (f : ℕ → List A) (len : (n : ℕ) → length (f n) ≡ k) where
@@ -33,5 +34,6 @@ module _ {A : Type 0} (k : ℕ) (f : ℕ → List A) (len : (n : ℕ) → length
   flat_all n d h = rw (drop_of_length-le d h, append-nil)
 
 -- the q-th of m rows of c has room for w from x on
+-- Kept: row_fits of std is of a whole row, from which this follows for a part of one (8f)
 pub row_in : (q m c x w : ℕ) → q < m → x + w ≤ c → q * c + x + w ≤ m * c
-row_in q m c x w h i = omega (arith, suc-mul q c, mul-le-mul_right c h)
+row_in q m c x w h i = omega (arith, row_fits q c m c h (le_refl c))

@@ -9,14 +9,17 @@ use lib.Seq.{drop-cons}
 use Rattle.lists.specs.Lists.{any, all}
 
 module _ {A : Type 0} (f : A → Bool) (l : List A) (d : A) (i : ℕ) where
+  -- Kept: the lemmas of std are of its list_any up to an index, and the definitions here are with any, from an index on (8f)
   pub any_on : i < length l → f (get_or l i d) ≡ false → any f (drop (i + 1) l) ≡ any f (drop i l)
   unfolding any
   any_on h e = rw (drop-cons l i d, e, add-one)
 
+  -- Kept: the lemmas of std are of its list_any up to an index, and the definitions here are with any, from an index on (8f)
   pub any_hit : i < length l → f (get_or l i d) ≡ true → any f (drop i l) ≡ true
   unfolding any
   any_hit h e = rw (drop-cons l i d, e)
 
+  -- Kept: the lemmas of std are of its list_any up to an index, and the definitions here are with any, from an index on (8f)
   pub any_end : length l ≤ i → any f (drop i l) ≡ false
   unfolding any
   any_end h = rw (drop_of_length-le l h)
@@ -24,11 +27,3 @@ module _ {A : Type 0} (f : A → Bool) (l : List A) (d : A) (i : ℕ) where
   pub all_are_on : i < length l → f (get_or l i d) ≡ true → all f (drop (i + 1) l) ≡ all f (drop i l)
   unfolding all
   all_are_on h e = rw (drop-cons l i d, e, add-one)
-
-  pub all_miss : i < length l → f (get_or l i d) ≡ false → all f (drop i l) ≡ false
-  unfolding all
-  all_miss h e = rw (drop-cons l i d, e)
-
-  pub all_end : length l ≤ i → all f (drop i l) ≡ true
-  unfolding all
-  all_end h = rw (drop_of_length-le l h)

@@ -37,3 +37,9 @@ module _ {A : Type 0} (f : ℕ → A) where
   unfolding tab
   get_or_tab zero i z h = absurd (omega arith)
   get_or_tab (suc n) i z h = last_or_before n i z (λ k. get_or_tab n i z k) h (dec_lt i n)
+
+-- the first n elements alone count
+pub tab_same : {A : Type 0} (n : ℕ) (f g : ℕ → A) → ((i : ℕ) → i < n → f i ≡ g i) → tab n f ≡ tab n g
+unfolding tab
+tab_same zero f g h = refl
+tab_same (suc n) f g h = rw (tab_same n f g (λ i k. h i (omega arith)), h n (omega arith))

@@ -15,6 +15,7 @@ module _ {S : Type 0} (f : ℕ → S → S) (s : S) where
   iter_more n = rw add-one refl
 
   -- one step taken off the front, as a loop takes it
+  -- Kept: between_more of std is of the elements between two indices; this is of the steps between two numbers (8b)
   pub between_more : (k e : ℕ) → k < e → between f k e s ≡ between f (k + 1) e (f k s)
   unfolding between turns
   between_more k e h =

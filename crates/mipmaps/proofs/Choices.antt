@@ -2,6 +2,7 @@
 use Prim.Native.Nat.{ℕ, ◌*◌, ◌/◌, ◌%◌, ◌≤◌}
 use mathlib.Core.Path.{◌≡◌, refl, sym, ap, ◌∙◌}
 use mathlib.Core.Bool.{Bool, true, false, cond}
+use Rattle.std.specs.Prelude.{Option, Some, None}
 use lib.Dec.{eqb}
 use lib.Ieee.{Float}
 use native.Mathlib.Omega.{arith}
@@ -11,44 +12,50 @@ use Rattle.levels.specs.declared.MinFilter.{MinFilter}
 use Rattle.detail.specs.Steps.{cut_of}
 use Rattle.detail.proofs.Cut.{cut_le}
 use Rattle.mipmaps.specs.declared.Mipmap.{Mipmap}
-use Rattle.mipmaps.specs.declared.Mipmap.TheVariants.{Off, NearestLevel, Between}
+use Rattle.mipmaps.specs.declared.Mipmap.TheVariants.{NearestLevel, Between}
 use Rattle.mipmaps.specs.declared.Chosen.{Chosen}
 use Rattle.mipmaps.specs.declared.Chosen.TheVariants.{One, Two}
 use Rattle.mipmaps.specs.declared.Coordinates.{Coordinates}
 use Rattle.mipmaps.specs.Mipmaps.{mipmap_filter, texel_filter, between, minified, q_at, above_one, chosen_of, Within}
 
 -- with no level above 0 the detail is 0
-at_nought : (m : Mipmap) (f : Filter) → minified m f 0 ≡ One 0 f
+at_nought : (m : Option Mipmap) (f : Filter) → minified m f 0 ≡ One 0 f
 unfolding minified between
-at_nought Off f = refl
-at_nought NearestLevel f = refl
-at_nought Between f = refl
+at_nought None f = refl
+at_nought (Some NearestLevel) f = refl
+at_nought (Some Between) f = refl
 
 cut_nought : (q : Float) → cut_of q 0 ≡ 0
 cut_nought q = omega (arith, cut_le q 0)
 
-module _ (width height top : ℕ) (min : MinFilter) (mag : Filter) (p : Coordinates) where
-  pub without_levels : top ≡ 0 → cond (above_one (q_at width height p)) (One 0 (texel_filter min)) (One 0 mag) ≡ chosen_of width height top min mag p
-  unfolding chosen_of
-  without_levels e =
-      ap (λ (c : Chosen). cond (above_one (q_at width height p)) c (One 0 mag))
-      (sym (at_nought (mipmap_filter min) (texel_filter min)) ∙ ap (λ (n : ℕ). minified (mipmap_filter min) (texel_filter min) n) (sym (cut_nought (q_at width height p)))
-      ∙ ap (λ (k : ℕ). minified (mipmap_filter min) (texel_filter min) (cut_of (q_at width height p) k)) (sym e))
+same : (b : Bool) (c : Chosen) → c ≡ cond b c c
+same true c = refl
+same false c = refl
 
-  pub without_mipmaps : mipmap_filter min ≡ Off → cond (above_one (q_at width height p)) (One 0 (texel_filter min)) (One 0 mag) ≡ chosen_of width height top min mag p
-  unfolding chosen_of minified
-  without_mipmaps e = ap (λ (m : Mipmap). cond (above_one (q_at width height p)) (minified m (texel_filter min) (cut_of (q_at width height p) top)) (One 0 mag)) (sym e)
+module _ (width height top : ℕ) (min : MinFilter) (mag : Filter) (p : Coordinates) where
+  one_filter : texel_filter min ≡ mag → minified (mipmap_filter min) (texel_filter min) (cut_of (q_at width height p) top) ≡ One 0 (texel_filter min) → One 0 mag ≡ chosen_of width height top min mag p
+  unfolding chosen_of
+  one_filter e z = same (above_one (q_at width height p)) (One 0 mag) ∙ ap (λ (c : Chosen). cond (above_one (q_at width height p)) c (One 0 mag)) (sym (z ∙ ap (One 0) e))
+
+  -- where level 0 is read whatever the detail, and by one filter
+  pub without_levels : texel_filter min ≡ mag → top ≡ 0 → One 0 mag ≡ chosen_of width height top min mag p
+  without_levels e z =
+      one_filter e (ap (λ (n : ℕ). minified (mipmap_filter min) (texel_filter min) n) (ap (cut_of (q_at width height p)) z ∙ cut_nought (q_at width height p)) ∙ at_nought (mipmap_filter min) (texel_filter min))
+
+  pub without_mipmaps : texel_filter min ≡ mag → mipmap_filter min ≡ None → One 0 mag ≡ chosen_of width height top min mag p
+  unfolding minified
+  without_mipmaps e z = one_filter e (rw z)
 
 -- ---- the chosen levels are levels of the chain
 next_in : (n top : ℕ) (b : Bool) (f : Filter) → n ≤ 256 * top → eqb (n % 256) 0 ≡ b → Within top (cond b (One (n / 256) f) (Two (n / 256) f (n % 256)))
 next_in n top true f h e = omega arith
 next_in n top false f h e = (omega (arith, eqb-false (n % 256) 0 e), omega arith)
 
-minified_within : (m : Mipmap) (f : Filter) (n top : ℕ) → n ≤ 256 * top → Within top (minified m f n)
+minified_within : (m : Option Mipmap) (f : Filter) (n top : ℕ) → n ≤ 256 * top → Within top (minified m f n)
 unfolding minified between
-minified_within Off f n top h = omega arith
-minified_within NearestLevel f n top h = omega arith
-minified_within Between f n top h = next_in n top (eqb (n % 256) 0) f h refl
+minified_within None f n top h = omega arith
+minified_within (Some NearestLevel) f n top h = omega arith
+minified_within (Some Between) f n top h = next_in n top (eqb (n % 256) 0) f h refl
 
 cond_within : (top : ℕ) (b : Bool) (c d : Chosen) → Within top c → Within top d → Within top (cond b c d)
 cond_within top true c d h k = h

@@ -1,5 +1,5 @@
 -- Which levels a sample reads, and by which filter: from the record's filters and top level, level 0's sides and the gradients.
-use Rattle.std.specs.Prelude.{ℕ, ◌+◌, ◌≤◌, ◌<◌, Bool, cond, eqb, Float}
+use Rattle.std.specs.Prelude.{ℕ, ◌+◌, ◌≤◌, ◌<◌, Bool, cond, eqb, Float, Option, Some, None}
 use Rattle.std.specs.Float.Ieee as Ieee
 use Rattle.std.specs.Float.{binary64}
 use Rattle.levels.specs.declared.Filter.{Filter}
@@ -9,7 +9,7 @@ use Rattle.levels.specs.declared.MinFilter.TheVariants as Min
 use Rattle.detail.specs.Pairs.{q_of}
 use Rattle.detail.specs.Steps.{cut_of, nearest_level, lower_level, way_up}
 use Rattle.mipmaps.specs.declared.Mipmap.{Mipmap}
-use Rattle.mipmaps.specs.declared.Mipmap.TheVariants.{Off, NearestLevel, Between}
+use Rattle.mipmaps.specs.declared.Mipmap.TheVariants.{NearestLevel, Between}
 use Rattle.mipmaps.specs.declared.Chosen.{Chosen}
 use Rattle.mipmaps.specs.declared.Chosen.TheVariants.{One, Two}
 use Rattle.mipmaps.specs.declared.Coordinates.{Coordinates}
@@ -24,23 +24,23 @@ texel_filter Min.NearestMipmapLinear = Texel.Nearest
 texel_filter Min.LinearMipmapLinear = Texel.Linear
 
 -- texture.rs, MinFilter::mipmap_filter: None, Some(false) and Some(true)
-abbrev pub mipmap_filter : MinFilter → Mipmap
-mipmap_filter Min.Nearest = Off
-mipmap_filter Min.Linear = Off
-mipmap_filter Min.NearestMipmapNearest = NearestLevel
-mipmap_filter Min.LinearMipmapNearest = NearestLevel
-mipmap_filter Min.NearestMipmapLinear = Between
-mipmap_filter Min.LinearMipmapLinear = Between
+abbrev pub mipmap_filter : MinFilter → Option Mipmap
+mipmap_filter Min.Nearest = None
+mipmap_filter Min.Linear = None
+mipmap_filter Min.NearestMipmapNearest = Some NearestLevel
+mipmap_filter Min.LinearMipmapNearest = Some NearestLevel
+mipmap_filter Min.NearestMipmapLinear = Some Between
+mipmap_filter Min.LinearMipmapLinear = Some Between
 
 -- Document 01, Level of detail: between levels, n div 256 and the next, n mod 256 parts of 256 of the way; remainder 0 reads one level
 unfoldable pub between : Filter → ℕ → Chosen
 between f n = cond (eqb (way_up n) 0) (One (lower_level n) f) (Two (lower_level n) f (way_up n))
 
 -- Document 01, Level of detail: the minifying filter at a detail of n / 256
-unfoldable pub minified : Mipmap → Filter → ℕ → Chosen
-minified Off f n = One 0 f
-minified NearestLevel f n = One (nearest_level n) f
-minified Between f n = between f n
+unfoldable pub minified : Option Mipmap → Filter → ℕ → Chosen
+minified None f n = One 0 f
+minified (Some NearestLevel) f n = One (nearest_level n) f
+minified (Some Between) f n = between f n
 
 unfoldable pub q_at : ℕ → ℕ → Coordinates → Float
 q_at width height p = q_of width height p.dsdx p.dtdx p.dsdy p.dtdy

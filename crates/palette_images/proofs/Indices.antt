@@ -6,8 +6,8 @@ use native.Mathlib.Nat.{mod-lt}
 use lib.Pow.{pow_pos}
 use lib.ListN.{length, get_or}
 use Rattle.lists.proofs.Parts.{flat_ext}
-use Rattle.texels.specs.declared.Texel.{Texel}
-use Rattle.texels.specs.declared.Texel.TheVariants.{Alpha, Luminance, LuminanceAlpha, Rgb, Rgba, Rgb565, Rgba4444, Rgba5551}
+use Rattle.texels.specs.declared.TexelFormat.{TexelFormat}
+use Rattle.texels.specs.declared.TexelFormat.TheVariants.{Alpha, Luminance, LuminanceAlpha, Rgb, Rgba, Rgb565, Rgba4444, Rgba5551}
 use Rattle.texels.specs.Image.{image}
 use Rattle.texels.specs.Texels.{nth_texel}
 use Rattle.palette_images.specs.Paletted.{row_bytes, palette_bytes, index_in, index_at, paletted_texel, paletted_image, Entries, entry, entry_at}
@@ -16,7 +16,7 @@ index_small : (b byte x : ℕ) → index_in b byte x < 2 ^ b
 index_small b byte x = mod-lt (byte / 2 ^ (8 - b - x * b % 8)) (pow_pos b)
 
 -- a decoded entry is the texel of that number
-entry_texel : (t : Texel) (s : List ℕ) (table : List (List ℕ)) (i : ℕ) → get_or table i [] ≡ nth_texel t s i → entry table i ≡ nth_texel t s i
+entry_texel : (t : TexelFormat) (s : List ℕ) (table : List (List ℕ)) (i : ℕ) → get_or table i [] ≡ nth_texel t s i → entry table i ≡ nth_texel t s i
 unfolding nth_texel
 entry_texel Alpha s table i e = rw e
 entry_texel Luminance s table i e = rw e
@@ -28,7 +28,7 @@ entry_texel Rgba4444 s table i e = rw e
 entry_texel Rgba5551 s table i e = rw e
 
 -- so the image of the decoded palette is the paletted image
-pub table_image : (b : ℕ) (t : Texel) (w high : ℕ) (s : List ℕ) (table : List (List ℕ)) → Entries t s (2 ^ b) table
+pub table_image : (b : ℕ) (t : TexelFormat) (w high : ℕ) (s : List ℕ) (table : List (List ℕ)) → Entries t s (2 ^ b) table
     → image w high (λ x y. entry_at b table s (palette_bytes b t + y * row_bytes b w) x) ≡ paletted_image b t w high s
 unfolding image paletted_image paletted_texel entry_at index_at
 table_image b t w high s table e =

@@ -1,6 +1,6 @@
 -- Paletted images, over the width b of an index in bits and the kind t of an entry: 2 to the b entries, then the rows of indices.
-use Rattle.std.specs.Prelude.{List, [], ◌∷◌, ◌≡◌, ℕ, ◌+◌, ◌-◌, ◌*◌, ◌/◌, ◌%◌, ◌^◌, ◌<◌, get_or}
-use Rattle.texels.specs.declared.Texel.{Texel}
+use Rattle.std.specs.Prelude.{cond, eqb, Result, Ok, Err, List, [], ◌∷◌, ◌≡◌, ℕ, ◌+◌, ◌-◌, ◌*◌, ◌/◌, ◌%◌, ◌^◌, ◌<◌, get_or}
+use Rattle.texels.specs.declared.TexelFormat.{TexelFormat}
 use Rattle.texels.specs.Image.{image}
 use Rattle.texels.specs.Texels.{texel_bytes, nth_texel}
 use Rattle.palette_images.specs.declared.IndexBits.{IndexBits}
@@ -13,15 +13,20 @@ index_bits Two = 2
 index_bits Four = 4
 index_bits Eight = 8
 
+-- which of them a number is
+unfoldable pub bits_of : ℕ → Result IndexBits ℕ
+bits_of n =
+    cond (eqb n 1) (Ok One) (cond (eqb n 2) (Ok Two) (cond (eqb n 4) (Ok Four) (cond (eqb n 8) (Ok Eight) (Err n))))
+
 -- document 01, Corners, for OES_compressed_paletted_texture: a row starts on a whole byte
 abbrev pub row_bytes : ℕ → ℕ → ℕ
 row_bytes b w = (w * b + 7) / 8
 
-abbrev pub palette_bytes : ℕ → Texel → ℕ
+abbrev pub palette_bytes : ℕ → TexelFormat → ℕ
 palette_bytes b t = 2 ^ b * texel_bytes t
 
 -- texture.rs, compressed_image_size: the palette, then h rows
-abbrev pub paletted_bytes : ℕ → Texel → ℕ → ℕ → ℕ
+abbrev pub paletted_bytes : ℕ → TexelFormat → ℕ → ℕ → ℕ
 paletted_bytes b t w h = palette_bytes b t + h * row_bytes b w
 
 -- OES_compressed_paletted_texture: of the indices in a byte the first has the highest bits
@@ -33,15 +38,15 @@ unfoldable pub index_at : ℕ → List ℕ → ℕ → ℕ → ℕ
 index_at b s at x = index_in b (get_or s (at + x * b / 8) 0) x
 
 -- texture.rs, decode_paletted: the texel at (x, y) is the palette's entry of its index
-unfoldable pub paletted_texel : ℕ → Texel → ℕ → List ℕ → ℕ → ℕ → List ℕ
+unfoldable pub paletted_texel : ℕ → TexelFormat → ℕ → List ℕ → ℕ → ℕ → List ℕ
 paletted_texel b t w s x y = nth_texel t s (index_at b s (palette_bytes b t + y * row_bytes b w) x)
 
-unfoldable pub paletted_image : ℕ → Texel → ℕ → ℕ → List ℕ → List ℕ
+unfoldable pub paletted_image : ℕ → TexelFormat → ℕ → ℕ → List ℕ → List ℕ
 paletted_image b t w h s = image w h (paletted_texel b t w s)
 
 -- The palette as the code holds it, its entries decoded.
 
-abbrev pub Entries : Texel → List ℕ → ℕ → List (List ℕ) → Type 0
+abbrev pub Entries : TexelFormat → List ℕ → ℕ → List (List ℕ) → Type 0
 Entries t s n table = (i : ℕ) → i < n → get_or table i [] ≡ nth_texel t s i
 
 abbrev pub entry : List (List ℕ) → ℕ → List ℕ

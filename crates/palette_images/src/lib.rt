@@ -6,7 +6,7 @@ ghost use Rattle.std.proofs.Math.Seq.{paste};
 ghost use Rattle.lists.specs.Lists.{flat};
 ghost use Rattle.texels.specs.Image.{image};
 ghost use Rattle.texels.specs.Texels.{texel_bytes};
-ghost use Rattle.palette_images.specs.Paletted.{index_bits, row_bytes, palette_bytes, paletted_bytes, index_in, paletted_image, Entries, entry, entry_at};
+ghost use Rattle.palette_images.specs.Paletted.{index_bits, bits_of, row_bytes, palette_bytes, paletted_bytes, index_in, paletted_image, Entries, entry_at};
 
 use texels::*;
 
@@ -19,8 +19,27 @@ pub enum IndexBits {
     Eight,
 }
 
+// The width that a number of bits is.
+impl TryFrom<usize> for IndexBits {
+    type Error = usize;
+
+    ghost try_from_gives = { λ n r. r ≡ bits_of n };
+
+    #[tactic(auto, using(std::proofs::lemmas::Bool::Decides::nat_tests), unfolding(crate::specs::Paletted::bits_of))]
+    fn try_from(n: usize) -> Result<Self, usize> {
+        Ok(match n {
+            1 => IndexBits::One,
+            2 => IndexBits::Two,
+            4 => IndexBits::Four,
+            8 => IndexBits::Eight,
+            _ => return Err(n),
+        })
+    }
+}
+
 // The bytes of a row of indices.
 pub fn row_bytes(bits: usize, w: usize) -> usize
+    // Kept: pub: a change may not ask more of callers, and a method of IndexBits takes 1, 2, 4 and 8 alone. (5a)
     requires { (bits ≤ 8) × (w ≤ 1024) }
     ensures { result ≡ row_bytes bits w }
 {
@@ -47,7 +66,7 @@ impl IndexBits {
     }
 
     // The bytes of an image: its palette, then its rows.
-    pub fn image_bytes(self, t: Texel, sides: Sides) -> usize
+    pub fn image_bytes(self, t: TexelFormat, sides: Sides) -> usize
         ensures { result ≡ paletted_bytes (index_bits self) t sides.w sides.h }
     {
         self.entries() * t.bytes() + sides.h * row_bytes(self.bits(), sides.w)
@@ -55,17 +74,16 @@ impl IndexBits {
 
     // The first index of a byte has its highest bits.
     fn index_in(self, byte: u8, x: usize) -> usize
-        requires { x < 1024 }
         ensures { (result ≡ index_in (index_bits self) byte x) × (result < 256) }
     {
         let bits = self.bits();
-        let low = 8 - bits - x * bits % 8;
+        let low = 8 - bits - x % 8 * bits % 8;
         ((u32::from(byte) >> low) % (1 << bits)) as usize
     }
 }
 
 // A palette's entries decoded.
-#[derive(Drop)]
+#[derive(Drop, Debug, PartialEq, Eq)]
 struct Palette {
     bits: IndexBits,
     entries: [[u8; 4]; 256],
@@ -73,7 +91,8 @@ struct Palette {
 
 impl Palette {
     // The palette in front of s.
-    fn new(bits: IndexBits, t: Texel, s: &[u8]) -> Palette
+    #[tactic(auto, using(lists::proofs::Tables::tab_none))]
+    fn new(bits: IndexBits, t: TexelFormat, s: &[u8]) -> Palette
         requires { palette_bytes (index_bits bits) t ≤ length s.now }
         ensures bits { result.bits ≡ bits }
         ensures entries { Entries t s.now (2 ^ index_bits bits) result.entries }
@@ -86,23 +105,16 @@ impl Palette {
         Palette { bits, entries }
     }
 
-    fn put(&self, i: usize, out: &mut [u8], at: usize)
-        requires { (i < 256) × (at + 4 ≤ length out.old) }
-        ensures { out.new ≡ paste out.old at (entry self.now.entries i) 4 }
-    {
-        let [r, g, b, a] = self.entries[i];
-        put4(out, at, [r, g, b, a]);
-    }
-
-    // A row of w texels, whose indices stand in s from `at` on.
-    fn put_row(&self, s: &[u8], at: usize, out: &mut [u8], to: usize, w: usize)
-        requires { (w ≤ 1024) × (at + row_bytes (index_bits self.now.bits) w ≤ length s.now) × (to + w * 4 ≤ length out.old) }
-        ensures { out.new ≡ paste out.old to (flat w (entry_at (index_bits self.now.bits) self.now.entries s.now at)) (w * 4) }
+    // A row of texels, whose indices stand in s from `at` on.
+    fn put_row(&self, s: &[u8], at: usize, out: &mut [u8], to: usize, sides: Sides)
+        requires { (at + row_bytes (index_bits self.now.bits) sides.w ≤ length s.now) × (to + sides.w * 4 ≤ length out.old) }
+        ensures { out.new ≡ paste out.old to (flat sides.w (entry_at (index_bits self.now.bits) self.now.entries s.now at)) (sides.w * 4) }
     {
         let bits = self.bits.bits();
-        for x in 0..w {
-            let i = self.bits.index_in(s[at + x * bits / 8], x);
-            self.put(i, out, to + x * 4);
+        // Kept: by index, since of a texel that chunks_exact_mut has lent out a proof knows the length alone, as in texels::fill. (3d)
+        for x in 0..sides.w {
+            let [r, g, b, a] = self.entries[self.bits.index_in(s[at + x * bits / 8], x)];
+            put4(out, to + x * 4, [r, g, b, a]);
         }
     }
 
@@ -112,13 +124,14 @@ impl Palette {
         ensures { out.new ≡ image sides.w sides.h (λ x y. entry_at (index_bits self.now.bits) self.now.entries s.now (start + y * row_bytes (index_bits self.now.bits) sides.w) x) }
     {
         let row = row_bytes(self.bits.bits(), sides.w);
+        // Kept: as in put_row. (3d)
         for y in 0..sides.h {
-            self.put_row(s, start + y * row, out, y * (sides.w * 4), sides.w);
+            self.put_row(s, start + y * row, out, y * (sides.w * 4), sides);
         }
     }
 }
 
-pub fn decode_paletted(bits: IndexBits, t: Texel, s: &[u8], out: &mut [u8], sides: Sides)
+pub fn decode_paletted(bits: IndexBits, t: TexelFormat, s: &[u8], out: &mut [u8], sides: Sides)
     requires { (paletted_bytes (index_bits bits) t sides.w sides.h ≤ length s.now) × (length out.old ≡ sides.h * sides.w * 4) }
     ensures { out.new ≡ paletted_image (index_bits bits) t sides.w sides.h s.now }
 {

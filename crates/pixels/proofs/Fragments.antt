@@ -1,13 +1,14 @@
 -- The ways of a fragment: its depth fails, its 1/w is of no use, or it reaches the stages. Assumes nothing.
-use Rattle.std.specs.Prelude.{Some, None}
+use Rattle.std.proofs.lemmas.Bool.{true≢false}
+use Rattle.std.specs.Prelude.{Option, Some, None}
 use mathlib.Core.Path.{◌≡◌, refl, sym, ◌∙◌}
 use mathlib.Core.Bool.{Bool, true, false, cond, not}
 use mathlib.Core.List.{List, []}
 use Prim.Native.Nat.{ℕ}
-use borrow.Author.Tests.{not-true, not-false}
 use lib.Ieee.{Float}
+use Rattle.std.proofs.lemmas.Option.{none-some, cond_some, some_pair_parts}
 use Rattle.lists.specs.Lists.{iter}
-use Rattle.lists.proofs.Choice.{stay, leave, true_false}
+use Rattle.lists.proofs.Choice.{stay, leave, was_false, was_true, was_not, was_so}
 use Rattle.settings.specs.declared.Rgba.{Rgba}
 use Rattle.settings.specs.declared.PipelineState.{PipelineState}
 use Rattle.fragment.specs.Fragment.{depth_passes, alpha_passes, fogged_of}
@@ -16,13 +17,6 @@ use Rattle.coverage.specs.declared.Primitive.{Primitive}
 use Rattle.coverage.specs.Coverage.{depth_at, inv_w_at, usable, color_of}
 use Rattle.stages.specs.Stages.{stages_color}
 use Rattle.pixels.specs.Way.{Drawing, drawing, reaches, shares, shaded_of, fog_depth_of, finished, fragment_of}
-
--- a call gave the value of a test, and the code tests `!t`
-pub was_not : {t b : Bool} → t ≡ b → not t ≡ true → b ≡ false
-was_not {t = t} e h = sym e ∙ not-true t h
-
-pub was_so : {t b : Bool} → t ≡ b → not t ≡ false → b ≡ true
-was_so {t = t} e h = sym e ∙ not-false t h
 
 -- ---- without a stage
 
@@ -33,8 +27,8 @@ unfolding shaded_of stages_color iter
 unstaged s t w = refl
 
 pub flat_is : {r : Bool} (s f : Bool) → r ≡ cond s false (not f) → r ≡ true → (s ≡ false) × (f ≡ false)
-flat_is true f e h = absurd (true_false (sym h ∙ e))
-flat_is false true e h = absurd (true_false (sym h ∙ e))
+flat_is true f e h = absurd (true≢false (sym h ∙ e))
+flat_is false true e h = absurd (true≢false (sym h ∙ e))
 flat_is false false e h = (refl, refl)
 
 -- a flat colour needs no weights, and without fog no fog depth
@@ -51,15 +45,20 @@ module _ (s : PipelineState) (t : Primitive) (w p : PerCorner) (z : Float) (c : 
   flat_kept h = stay None a h refl ∙ flat_finished
 
 module _ (store : List ℕ) (d : Drawing) (t : Primitive) (w : PerCorner) (stored : Float) where
-  pub depth_fails : depth_passes d.state (depth_at t.raster w) stored ≡ false → None ≡ fragment_of store d t w stored
-  unfolding fragment_of reaches
-  depth_fails e = rw e
+  -- its depth and 1/w, if it reaches the stages
+  abbrev pub reach : Option (Float × Float)
+  reach = cond (reaches d.state t w stored) (Some (depth_at t.raster w, inv_w_at t.raster w)) None
 
-  pub unusable : depth_passes d.state (depth_at t.raster w) stored ≡ true → usable (inv_w_at t.raster w) ≡ false → None ≡ fragment_of store d t w stored
-  unfolding fragment_of reaches
-  unusable e f = rw (e, f)
+  pub unreached : reach ≡ None → None ≡ fragment_of store d t w stored
+  unfolding fragment_of
+  unreached e = rw (was_false (reaches d.state t w stored) e (λ h. none-some _ (sym h))).0
 
-  pub reached : depth_passes d.state (depth_at t.raster w) stored ≡ true → usable (inv_w_at t.raster w) ≡ true
-      → finished d.state (depth_at t.raster w) (fog_depth_of t w) (shaded_of store d t w) ≡ fragment_of store d t w stored
-  unfolding fragment_of reaches
-  reached e f = rw (e, f)
+  pub reached : {z iw : Float} → reach ≡ Some (z, iw) → finished d.state (depth_at t.raster w) (fog_depth_of t w) (shaded_of store d t w) ≡ fragment_of store d t w stored
+  unfolding fragment_of
+  reached e = rw (cond_some (reaches d.state t w stored) _ _ e).0
+
+  pub reached_at : {z iw : Float} → reach ≡ Some (z, iw) → (z ≡ depth_at t.raster w) × (iw ≡ inv_w_at t.raster w)
+  reached_at e = let h = some_pair_parts _ _ _ _ (cond_some_is e) in (sym h.0, sym h.1)
+    where
+      cond_some_is : {z iw : Float} → reach ≡ Some (z, iw) → ◌≡◌ {A = Option (Float × Float)} (Some (depth_at t.raster w, inv_w_at t.raster w)) (Some (z, iw))
+      cond_some_is e = (was_true (reaches d.state t w stored) e (none-some _)).1

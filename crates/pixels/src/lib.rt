@@ -1,20 +1,27 @@
 // The pixel's way (raster.rs, raster_clipped): weights, depth test, 1/w, colour, stages, alpha test, fog, blend, masked colour, depth, count.
 #![tactic(auto)]
 
-ghost use Rattle.std.specs.Prelude.{◌≡◌, ℕ, ◌+◌, ◌*◌, ◌<◌, ◌≤◌, List, [], length, get_or, set};
+pub mod target;
+
+ghost use Rattle.std.specs.Prelude.{◌≡◌, ℕ, ◌+◌, ◌*◌, ◌<◌, ◌≤◌, List, [], Some, None, cond, length, get_or, set};
+ghost use Rattle.std.specs.Float.{nan};
 ghost use Rattle.gradients.specs.Gradients.{sum_of, per_corner};
 ghost use Rattle.fragment.specs.Fragment.{blend_of, units_of};
 ghost use Rattle.frames.specs.State.{pixel_at};
-ghost use Rattle.frames.specs.Gather.{put_color};
+ghost use Rattle.frames.specs.Gather.{put_color, put_pixel};
 ghost use Rattle.coverage.specs.declared.Primitive.{Primitive};
-ghost use Rattle.pixels.specs.Way.{Drawing, drawing, finished, fragment_of, written_of, pixel_of, drawn_to};
+ghost use Rattle.pixels.specs.Way.{Drawing, drawing, finished, fragment_of, written_of, pixel_of, reaches};
+ghost use Rattle.coverage.specs.Coverage.{depth_at, inv_w_at};
+ghost use Rattle.pixels.specs.Targets.{drawn_on, Same};
+ghost use Rattle.std.proofs.Math.Option.{some};
 
 use coverage::Primitive;
 use gradients::PerCorner;
 use settings::{BlendFactor, PipelineState, Rgba};
 use stages::Stages;
+use target::Target;
 
-// What a draw does at a pixel. A draw without a stage carries no record and no texel along, and one of a single colour makes its bytes once.
+// What a draw makes of a pixel. A draw without a stage carries no record and no texel along, and one of a single colour makes its bytes once.
 pub trait Paint {
     // The store's bytes that it samples.
     ghost store: { Self → List ℕ };
@@ -24,21 +31,53 @@ pub trait Paint {
     // The triangles that it is made for.
     ghost paints: { Self → Primitive → Type 0 };
 
-    // One pixel of a triangle. Answers the number of pixels written so far.
-    fn draw_pixel(
-        &self,
-        colors: &mut [u8],
-        depths: &mut [f32],
-        t: Primitive,
-        width: usize,
-        py: u32,
-        px: u32,
-        written: usize,
-    ) -> usize
+    fn state(&self) -> PipelineState
+        ensures { result ≡ (drawing self.now).state };
+
+    // The fragment at a pixel's weights; stored is the pixel's depth.
+    // Kept: a struct of triangle and weights would be made at each pixel, and taken apart again by each paint (5c)
+    fn fragment_at(&self, t: Primitive, w: PerCorner, stored: f32) -> Option<(f32, Rgba)>
+        ensures { result ≡ fragment_of (store self.now) (drawing self.now) t w stored };
+
+    // One pixel of a triangle.
+    // Kept: the body for every paint but Solid's, which puts bytes that are made once and has no colour to convert (2c, 5c)
+    fn draw_pixel(&self, target: &mut Target, t: Primitive, py: u32, px: u32)
         requires paints { paints self.now t }
-        requires bounds { (px < 4096) × (py < 4096) × (width ≤ 4096) × (written ≤ 1000000000000) }
-        requires lengths { (py * width + px < length depths.old) × (length colors.old ≡ 4 * length depths.old) }
-        ensures { drawn_to colors.new depths.new result ≡ pixel_of (store self.now) (drawing self.now) t width py px (drawn_to colors.old depths.old written) };
+        // Kept: a type with the bound of a row or column would be made at each pixel (5a)
+        requires bounds { (px < 4096) × (py < 4096) × (target.old.written ≤ 1000000000000) }
+        requires inside { py * target.old.width + px < length target.old.depths.now }
+        ensures drawn { drawn_on target.new ≡ pixel_of (store self.now) (drawing self.now) t target.old.width py px (drawn_on target.old) }
+        // Kept: a fact of the type cannot speak of the target as it was (5b)
+        ensures same { Same target.old target.new }
+    {
+        let w = coverage::weights_at(t.raster, px, py);
+        if !coverage::is_covered(w) {
+            return;
+        }
+        let i = py as usize * target.width + px as usize;
+        let Some((z, c)) = self.fragment_at(t, w, target.depths[i]) else {
+            return;
+        };
+        write_pixel(target, i, self.state(), z, c);
+    }
+}
+
+// Up to the stages: the depth test, and whether 1/w can be used. A fragment that gets there has its depth and 1/w.
+// Kept: as fragment_at (5c)
+#[tactic(auto, unfolding(crate::specs::Way::reaches))]
+#[inline(always)]
+pub fn reached(state: PipelineState, t: Primitive, w: PerCorner, stored: f32) -> Option<(f32, f32)>
+    ensures { result ≡ cond (reaches state t w stored) (Some (depth_at t.raster w, inv_w_at t.raster w)) None }
+{
+    let z = coverage::depth_at(t.raster, w);
+    if !fragment::depth_passes(state, z, stored) {
+        return None;
+    }
+    let iw = coverage::inv_w_at(t.raster, w);
+    if !coverage::is_usable(iw) {
+        return None;
+    }
+    Some((z, iw))
 }
 
 pub fn fog_depth_at(p: PerCorner, t: Primitive) -> f32
@@ -76,6 +115,7 @@ pub fn blended(
     b: f32,
     a: f32,
 ) -> Rgba
+    // Kept: a caller that cut four bytes out would owe the same bound there (5a)
     requires { k + 4 ≤ length colors.now }
     ensures { result ≡ blend_of src_factor dst_factor (record { r = r; g = g; b = b; a = a }) (units_of (get_or colors.now k 0) (get_or colors.now (k + 1) 0) (get_or colors.now (k + 2) 0) (get_or colors.now (k + 3) 0)) }
 {
@@ -86,9 +126,9 @@ pub fn blended(
 // Inlined into each paint's loop.
 #[tactic(auto, unfolding(fragment::specs::Fragment::put_color_of, frames::specs::Gather::put_color, frames::specs::State::pixel_at, crate::specs::Way::written_of, crate::specs::Way::blended_of))]
 #[inline(always)]
-pub fn write_color(colors: &mut [u8], i: usize, state: PipelineState, z: f32, c: Rgba)
+pub fn write_color(colors: &mut [u8], i: usize, state: PipelineState, c: Rgba)
     requires { i * 4 + 4 ≤ length colors.old }
-    ensures { colors.new ≡ put_color colors.old i (written_of state z c (pixel_at colors.old [] i)) }
+    ensures { colors.new ≡ put_color colors.old i (written_of state nan c (pixel_at colors.old [] i)) }
 {
     let mask = state.color_mask;
     if state.blend {
@@ -101,13 +141,26 @@ pub fn write_color(colors: &mut [u8], i: usize, state: PipelineState, z: f32, c:
     fragment::put_color(colors, i * 4, mask, c);
 }
 
-pub fn write_depth(depths: &mut [f32], i: usize, state: PipelineState, z: f32, c: Rgba)
+pub fn write_depth(depths: &mut [f32], i: usize, state: PipelineState, z: f32)
     requires { i < length depths.old }
-    ensures { depths.new ≡ set depths.old i (written_of state z c (pixel_at [] depths.old i)).depth }
+    ensures { depths.new ≡ set depths.old i (cond state.depth_write z (get_or depths.old i nan)) }
 {
     if state.depth_write {
         depths[i] = z;
     }
+}
+
+// A fragment that is kept: its colour and depth, and the count.
+#[inline(always)]
+pub fn write_pixel(target: &mut Target, i: usize, state: PipelineState, z: f32, c: Rgba)
+    requires { (i < length target.old.depths.now) × (target.old.written ≤ 1000000000000) }
+    ensures drawn { drawn_on target.new ≡ put_pixel (drawn_on target.old) i (some (written_of state z c (pixel_at target.old.colors.now target.old.depths.now i))) }
+    // Kept: a fact of the type cannot speak of the target as it was (5b)
+    ensures same { Same target.old target.new }
+{
+    write_color(target.colors, i, state, c);
+    write_depth(target.depths, i, state, z);
+    target.written += 1;
 }
 
 // A draw with its stages.
@@ -117,20 +170,22 @@ pub struct Staged<'a> {
     pub stages: Stages<'a>,
 }
 
-impl Staged<'_> {
-    // The fragment at a pixel's weights; stored is the pixel's depth.
-    pub fn fragment_at(&self, t: Primitive, w: PerCorner, stored: f32) -> Option<(f32, Rgba)>
-        ensures { result ≡ fragment_of self.now.stages.store.now (drawing self.now.state self.now.stages.stages self.now.stages.count self.now.stages.textures.now) t w stored }
-    {
+impl Paint for Staged<'_> {
+    ghost store = { λ s. s.stages.store.now };
+
+    ghost drawing = { λ s. drawing s.state s.stages.stages s.stages.count s.stages.textures.now };
+
+    ghost paints = { λ _ _. Unit {0} };
+
+    // Kept: a trait has no fields, so each paint hands out its own (2a)
+    fn state(&self) -> PipelineState {
+        self.state
+    }
+
+    // Kept: an impl repeats its trait's head; what is alike stands in reached and finish (2c, 5c)
+    fn fragment_at(&self, t: Primitive, w: PerCorner, stored: f32) -> Option<(f32, Rgba)> {
         let state = self.state;
-        let z = coverage::depth_at(t.raster, w);
-        if !fragment::depth_passes(state, z, stored) {
-            return None;
-        }
-        let iw = coverage::inv_w_at(t.raster, w);
-        if !coverage::is_usable(iw) {
-            return None;
-        }
+        let (z, iw) = reached(state, t, w, stored)?;
         let rec = 1.0 / iw;
         let p = coverage::shares_of(t.raster, w, rec);
         let a = t.a.color;
@@ -142,36 +197,5 @@ impl Staged<'_> {
             return finish(state, z, fog_depth, self.stages.first(t, w, rec, color));
         }
         finish(state, z, fog_depth, self.stages.color(t, w, rec, color))
-    }
-}
-
-impl Paint for Staged<'_> {
-    ghost store = { λ s. s.stages.store.now };
-
-    ghost drawing = { λ s. drawing s.state s.stages.stages s.stages.count s.stages.textures.now };
-
-    ghost paints = { λ _ _. Unit {0} };
-
-    fn draw_pixel(
-        &self,
-        colors: &mut [u8],
-        depths: &mut [f32],
-        t: Primitive,
-        width: usize,
-        py: u32,
-        px: u32,
-        written: usize,
-    ) -> usize {
-        let w = coverage::weights_at(t.raster, px, py);
-        if !coverage::is_covered(w) {
-            return written;
-        }
-        let i = py as usize * width + px as usize;
-        let Some((z, c)) = self.fragment_at(t, w, depths[i]) else {
-            return written;
-        };
-        write_color(colors, i, self.state, z, c);
-        write_depth(depths, i, self.state, z, c);
-        written + 1
     }
 }

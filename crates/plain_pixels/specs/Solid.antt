@@ -1,11 +1,10 @@
 -- A triangle of one colour: settings under which each pixel that it writes gets its last corner's colour in all four bytes.
-use Rattle.std.specs.Prelude.{Bool, false, cond, get_or}
+use Rattle.std.specs.Prelude.{ℕ, Bool, false, cond, List, [], ◌∷◌, get_or}
 use Rattle.std.specs.Float.{nan}
 use Rattle.channels.specs.Channel.{byte_of}
 use Rattle.settings.specs.declared.ColorMask.{ColorMask}
 use Rattle.settings.specs.declared.PipelineState.{PipelineState}
 use Rattle.coverage.specs.declared.Primitive.{Primitive}
-use Rattle.plain_pixels.specs.declared.solid.SolidColor.{SolidColor}
 
 abbrev pub all_on : ColorMask → Bool
 all_on m = cond m.r (cond m.g (cond m.b m.a false) false) false
@@ -15,10 +14,6 @@ unfoldable pub solid_of : PipelineState → Bool
 solid_of s = cond s.smooth_shading false (cond s.fog false (cond s.blend false (cond s.alpha_test false (all_on s.color_mask))))
 
 -- the bytes of the last corner's colour
-unfoldable pub solid_color : Primitive → SolidColor
-solid_color t = record {
-  r = byte_of (get_or t.c.color 0 nan);
-  g = byte_of (get_or t.c.color 1 nan);
-  b = byte_of (get_or t.c.color 2 nan);
-  a = byte_of (get_or t.c.color 3 nan);
-}
+unfoldable pub solid_color : Primitive → List ℕ
+solid_color t =
+    byte_of (get_or t.c.color 0 nan) ∷ byte_of (get_or t.c.color 1 nan) ∷ byte_of (get_or t.c.color 2 nan) ∷ byte_of (get_or t.c.color 3 nan) ∷ []

@@ -5,10 +5,13 @@ ghost use Rattle.std.specs.Prelude.{◌≡◌, []};
 ghost use Rattle.pixels.specs.Way.{drawing};
 
 use coverage::Primitive;
+use gradients::PerCorner;
 use pixels::Paint;
+use pixels::target::Target;
 use plain_pixels::solid::{self, Solid};
-use raster::{Draw, Region};
-use settings::PipelineState;
+use raster::Draw;
+use scissor::PixelBox;
+use settings::{PipelineState, Rgba};
 
 // A draw without a stage.
 #[derive(Clone, Copy)]
@@ -23,40 +26,27 @@ impl Paint for Plain {
 
     ghost paints = { λ _ _. Unit {0} };
 
-    fn draw_pixel(
-        &self,
-        colors: &mut [u8],
-        depths: &mut [f32],
-        t: Primitive,
-        width: usize,
-        py: u32,
-        px: u32,
-        written: usize,
-    ) -> usize {
-        plain_pixels::draw_pixel(colors, depths, self.state, t, width, py, px, written)
-    }
-}
-
-impl Draw for Plain {
+    // Kept: a trait has no fields, so each paint hands out its own (2a)
     fn state(&self) -> PipelineState {
         self.state
     }
 
+    // Kept: an impl repeats its trait's head (5c)
+    fn fragment_at(&self, t: Primitive, w: PerCorner, stored: f32) -> Option<(f32, Rgba)> {
+        plain_pixels::fragment_at(self.state, t, w, stored)
+    }
+}
+
+impl Draw for Plain {
     // A triangle of one colour has its bytes made once.
-    fn fill_triangle(
-        &self,
-        colors: &mut [u8],
-        depths: &mut [f32],
-        t: Primitive,
-        region: Region,
-        written: usize,
-    ) -> usize {
+    // Kept: an impl repeats its trait's head (5c)
+    fn fill_triangle(&self, target: &mut Target, t: Primitive, pixels: PixelBox) {
         let state = self.state;
         if solid::is_solid(state) {
             let color = solid::solid_color(t);
-            let paint = Solid { state, color };
-            return raster::fill(colors, depths, &paint, t, region, written);
+            raster::fill(target, &Solid { state, color }, t, pixels);
+            return;
         }
-        raster::fill(colors, depths, self, t, region, written)
+        raster::fill(target, self, t, pixels);
     }
 }

@@ -2,14 +2,13 @@
 use mathlib.Core.Path.{◌≡◌, refl, ap, subst, ◌∙◌}
 use mathlib.Core.List.{List, [], ◌∷◌, ◌++◌, append_assoc}
 use Prim.Native.Nat.{ℕ, zero, suc, ◌+◌, ◌*◌, ◌≤◌, ◌<◌}
-use native.Mathlib.Nat.{add-zero}
 use native.Mathlib.Numerals.{add-one}
 use native.Mathlib.Omega.{arith}
 use lib.ListN.{length, get_or, take, drop, length-append, get_or-append}
 use lib.Seq.{paste, length-paste, take_all, length-take-le, get_or-take, get_or-append-add}
 use lib.Ieee.{Float, nan}
 use Rattle.lists.specs.Lists.{tab}
-use Rattle.lists.proofs.Tables.{length_tab, get_or_tab}
+use Rattle.lists.proofs.Tables.{length_tab, get_or_tab, tab_same}
 use Rattle.vertices.specs.declared.Vertex.{Vertex}
 use Rattle.vertices.specs.Vertex.{lerp, mixed, past}
 use Rattle.polygon.specs.Corners.{vertex_from, vertex_at, corners_of, floats_of, put_at, Full}
@@ -21,17 +20,6 @@ full_lerp t a b = record { pos_long = refl; color_long = refl; texcoord_long = r
 pub full_at : (s : List Float) (i : ℕ) → Full (vertex_at s i)
 unfolding vertex_at
 full_at s i = record { pos_long = refl; color_long = refl; texcoord_long = refl }
-
--- as the code reads it
-pub at_start : (s : List Float) (i : ℕ)
-    → record {
-      pos = get_or s (i * 17) nan ∷ get_or s (i * 17 + 1) nan ∷ get_or s (i * 17 + 2) nan ∷ get_or s (i * 17 + 3) nan ∷ [];
-      color = get_or s (i * 17 + 4) nan ∷ get_or s (i * 17 + 5) nan ∷ get_or s (i * 17 + 6) nan ∷ get_or s (i * 17 + 7) nan ∷ [];
-      texcoord = get_or s (i * 17 + 8) nan ∷ get_or s (i * 17 + 9) nan ∷ get_or s (i * 17 + 10) nan ∷ get_or s (i * 17 + 11) nan ∷ get_or s (i * 17 + 12) nan ∷ get_or s (i * 17 + 13) nan ∷ get_or s (i * 17 + 14) nan ∷ get_or s (i * 17 + 15) nan ∷ [];
-      fog_depth = get_or s (i * 17 + 16) nan;
-    } ≡ vertex_at s i
-unfolding vertex_at
-at_start s i = rw (add-zero (i * 17))
 
 same_floats : (f g : ℕ → Float) → ((k : ℕ) → k < 17 → f k ≡ g k) → vertex_from f ≡ vertex_from g
 same_floats f g h =
@@ -120,11 +108,6 @@ length_put s i v full h = length-paste s (i * 17) (floats_of v) 17 h (omega (ari
 
 -- ---- the first n corners
 
-tab_same : {A : Type 0} (f g : ℕ → A) (n : ℕ) → ((i : ℕ) → i < n → f i ≡ g i) → tab n f ≡ tab n g
-unfolding tab
-tab_same f g zero h = refl
-tab_same f g (suc n) h = rw (tab_same f g n (λ i k. h i (omega arith)), h n (omega arith))
-
 pub length_corners : (n : ℕ) (s : List Float) → length (corners_of n s) ≡ n
 unfolding corners_of
 length_corners n s = length_tab (vertex_at s) n
@@ -140,7 +123,7 @@ corners_none s = refl
 -- v put at corner n follows the first n
 pub corners_more : (n : ℕ) (s : List Float) (v : Vertex) → n * 17 + 17 ≤ length s → Full v → corners_of (n + 1) (put_at s n v) ≡ corners_of n s ++ (v ∷ [])
 unfolding corners_of tab
-corners_more n s v h full = rw (add-one n, put_same s n v h full, tab_same (vertex_at (put_at s n v)) (vertex_at s) n (λ i k. put_before s n v h i k))
+corners_more n s v h full = rw (add-one n, put_same s n v h full, tab_same n (vertex_at (put_at s n v)) (vertex_at s) (λ i k. put_before s n v h i k))
 
 pub corners_next : (n : ℕ) (s : List Float) → corners_of (n + 1) s ≡ corners_of n s ++ (vertex_at s n ∷ [])
 unfolding corners_of tab

@@ -5,10 +5,13 @@ ghost use Rattle.std.specs.Prelude.{◌≡◌, ◌+◌, ◌*◌, ◌<◌, ◌≤
 ghost use Rattle.vertices.specs.Vertex.{past};
 ghost use Rattle.polygon.specs.Corners.{vertex_at, put_at, Full, corners_of};
 
+use std::array;
 use std::marker::Model;
 use vertices::Vertex;
 
 // At most 42 corners: what the seven planes can leave of a triangle.
+// Kept: there is no heap (document 02), so the room for 42 is an array, of which len are in use; the Model shows those alone. (6a)
+// Kept: a derived PartialEq would compare what stands past len, and no code compares polygons. (4n)
 #[derive(Drop)]
 pub struct Polygon {
     corners: [Vertex; 42],
@@ -28,6 +31,7 @@ impl Model for Polygon {
 }
 
 impl Polygon {
+    // Kept: a public function, beside which no code asks for a Default; zeros, since 42 of any vertex but zeros are no plain fill. (4m)
     pub fn new() -> Self
         ensures { result ≡ [] }
     {
@@ -73,40 +77,23 @@ impl Polygon {
     }
 }
 
+// Kept: the C probes lend a polygon as floats laid flat, seventeen a corner. (6d)
 pub fn corner(polygon: &[f32], i: usize) -> Vertex
-    requires { (length polygon.now ≡ 714) × (i < 42) }
+    requires { i * 17 + 17 ≤ length polygon.now }
     ensures { result ≡ vertex_at polygon.now i }
 {
     let at = i * 17;
     Vertex {
-        pos: [
-            polygon[at],
-            polygon[at + 1],
-            polygon[at + 2],
-            polygon[at + 3],
-        ],
-        color: [
-            polygon[at + 4],
-            polygon[at + 5],
-            polygon[at + 6],
-            polygon[at + 7],
-        ],
-        texcoord: [
-            polygon[at + 8],
-            polygon[at + 9],
-            polygon[at + 10],
-            polygon[at + 11],
-            polygon[at + 12],
-            polygon[at + 13],
-            polygon[at + 14],
-            polygon[at + 15],
-        ],
+        pos: array::from_fn(|k| polygon[at + k]),
+        color: array::from_fn(|k| polygon[at + (4 + k)]),
+        texcoord: array::from_fn(|k| polygon[at + (8 + k)]),
         fog_depth: polygon[at + 16],
     }
 }
 
+// Kept: the C probes lend a polygon as floats laid flat, seventeen a corner. (6d)
 pub fn put_corner(polygon: &mut [f32], i: usize, vertex: Vertex)
-    requires { (length polygon.old ≡ 714) × (i < 42) }
+    requires { i * 17 + 17 ≤ length polygon.old }
     ensures { (polygon.new ≡ put_at polygon.old i vertex) × Full vertex }
 {
     let at = i * 17;
@@ -117,8 +104,9 @@ pub fn put_corner(polygon: &mut [f32], i: usize, vertex: Vertex)
 }
 
 // A polygon's corners, from the front.
+// Kept: the C probes lend a polygon as floats laid flat, seventeen a corner. (6d)
 pub fn put_corners(polygon: &mut [f32], from: &Polygon)
-    requires { length polygon.old ≡ 714 }
+    requires { 714 ≤ length polygon.old }
     ensures { corners_of (length from.now) polygon.new ≡ from.now }
 {
     for (i, vertex) in from.corners().iter().enumerate() {

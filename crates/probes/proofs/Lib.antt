@@ -1,3 +1,4 @@
+pub mod Defaults
 pub mod Each
 pub mod Mapped
 pub mod Next

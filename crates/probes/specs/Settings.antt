@@ -1,7 +1,5 @@
--- How the probes hand over codes and colours.
-use Rattle.std.specs.Prelude.{ℕ, cond, List, [], ◌∷◌, eqb, Float, get_or, Result, Ok, Err}
-use Rattle.std.specs.Float.{nan}
-use Rattle.settings.specs.declared.Rgba.{Rgba}
+-- How the probes hand over codes.
+use Rattle.std.specs.Prelude.{ℕ, cond, eqb, Result, Ok, Err}
 use Rattle.settings.specs.declared.CompareFunc.{CompareFunc}
 use Rattle.settings.specs.declared.CompareFunc.TheVariants.{Never}
 use Rattle.settings.specs.declared.BlendFactor.{BlendFactor}
@@ -28,9 +26,3 @@ factor_of code = factor_or (read_factor code)
 unfoldable pub environment_of : ℕ → TexEnvMode
 environment_of n =
     cond (eqb n 1) E.Replace (cond (eqb n 2) E.Decal (cond (eqb n 3) E.Blend (cond (eqb n 4) E.Add E.Modulate)))
-
-abbrev pub color_of : List Float → Rgba
-color_of l = record { r = get_or l 0 nan; g = get_or l 1 nan; b = get_or l 2 nan; a = get_or l 3 nan }
-
-abbrev pub channels_of : Rgba → List Float
-channels_of v = v.r ∷ v.g ∷ v.b ∷ v.a ∷ []

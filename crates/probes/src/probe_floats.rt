@@ -102,12 +102,9 @@ pub extern "C" fn probe_round(x: f32) -> f32
 fn told(z: i64, n: &mut u64) -> bool
     ensures { cond result (negsuc n.new) (pos n.new) ≡ z }
 {
-    if z < 0 {
-        *n = z.unsigned_abs() - 1;
-        return true;
-    }
-    *n = z.unsigned_abs();
-    false
+    let from_zero = if z < 0 { !z } else { z };
+    *n = from_zero.unsigned_abs();
+    z < 0
 }
 
 #[unsafe(no_mangle)]
@@ -125,6 +122,7 @@ pub extern "C" fn probe_saturating_i64(x: f32, n: &mut u64) -> bool
 }
 
 // One more, up to `top`. Any u64 may come, so that the numbers need not fit an i64.
+// Kept: the C interface hands a number on as a flag and any u64, which an i64 need not hold (1o)
 fn next(below: bool, m: u64, top: u64, n: &mut u64) -> bool
     ensures { cond result (negsuc n.new) (pos n.new) ≡ cond below (cond (nat_eq m 0) (pos 0) (negsuc (m - 1))) (pos (min (m + 1) top)) }
 {
@@ -138,6 +136,7 @@ fn next(below: bool, m: u64, top: u64, n: &mut u64) -> bool
     below && m != 0
 }
 
+// Kept: the signature is the C interface's (1o)
 #[unsafe(no_mangle)]
 pub extern "C" fn probe_next_i32(below: bool, m: u64, n: &mut u64) -> bool
     ensures { cond result (negsuc n.new) (pos n.new) ≡ next_of 31 (cond below (negsuc m) (pos m)) }
@@ -145,6 +144,7 @@ pub extern "C" fn probe_next_i32(below: bool, m: u64, n: &mut u64) -> bool
     next(below, m, 2147483647, n)
 }
 
+// Kept: the signature is the C interface's (1o)
 #[unsafe(no_mangle)]
 pub extern "C" fn probe_next_i64(below: bool, m: u64, n: &mut u64) -> bool
     ensures { cond result (negsuc n.new) (pos n.new) ≡ next_of 63 (cond below (negsuc m) (pos m)) }
@@ -174,23 +174,27 @@ pub extern "C" fn probe_rounded_byte(x: f32) -> u8
 }
 
 // The byte of each float: both slices have one length.
+#[tactic(auto, using(crate::proofs::Mapped::mapped_none, crate::proofs::Mapped::mapped_all))]
 #[unsafe(no_mangle)]
 pub extern "C" fn probe_to_bytes(src: &[f32], out: &mut [u8])
+    // Kept: the signature is the C interface's, which hands both slices over (5a)
     requires { length src.now ≡ length out.old }
     ensures { out.new ≡ tab (length src.now) (λ (i : ℕ). byte_of (get_or src.now i nan)) }
 {
-    for i in 0..src.len() {
-        out[i] = channels::to_byte(src[i]);
+    for (i, x) in out.iter_mut().enumerate() {
+        *x = channels::to_byte(src[i]);
     }
 }
 
 // The floor of each float: both slices have one length.
+#[tactic(auto, using(crate::proofs::Mapped::mapped_none, crate::proofs::Mapped::mapped_all))]
 #[unsafe(no_mangle)]
 pub extern "C" fn probe_floors(src: &[f32], out: &mut [f32])
+    // Kept: the signature is the C interface's, which hands both slices over (5a)
     requires { length src.now ≡ length out.old }
     ensures { out.new ≡ tab (length src.now) (λ (i : ℕ). floor_of (get_or src.now i nan)) }
 {
-    for i in 0..src.len() {
-        out[i] = rounding::floor(src[i]);
+    for (i, x) in out.iter_mut().enumerate() {
+        *x = rounding::floor(src[i]);
     }
 }

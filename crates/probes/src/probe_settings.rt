@@ -4,76 +4,43 @@ ghost use Rattle.floats.specs.Num.{clamp_of, zero32, one32};
 ghost use Rattle.settings.specs.Compare.{test_of};
 ghost use Rattle.settings.specs.Factor.{resolve_of};
 ghost use Rattle.fragment.specs.Fragment.{env_of, linear_fog_of, fog_mix_of, blend_of, masked_of};
-ghost use Rattle.probes.specs.Settings.{compare_or, compare_of, factor_or, factor_of, environment_of, color_of, channels_of};
+ghost use Rattle.settings.specs.Channels.{color_of, channels_of};
+ghost use Rattle.probes.specs.Settings.{compare_of, factor_of, environment_of};
 
-use answers::Refusal;
+use crate::Code;
 use settings::{BlendFactor, CompareFunc, PipelineState, Rgba, TexEnvMode, TextureStage};
-
-fn compare_or_never(read: Result<CompareFunc, Refusal>) -> CompareFunc
-    ensures { result ≡ compare_or read }
-{
-    match read {
-        Ok(f) => f,
-        Err(_) => CompareFunc::Never,
-    }
-}
 
 #[unsafe(no_mangle)]
 pub extern "C" fn probe_test(code: u32, lhs: f32, rhs: f32) -> bool
     ensures { result ≡ test_of (compare_of code) lhs rhs }
 {
-    compare_or_never(CompareFunc::try_from(code)).test(lhs, rhs)
+    CompareFunc::try_from(code)
+        .unwrap_or(CompareFunc::Never)
+        .test(lhs, rhs)
 }
 
-fn factor_or_zero(read: Result<BlendFactor, Refusal>) -> BlendFactor
-    ensures { result ≡ factor_or read }
-{
-    match read {
-        Ok(f) => f,
-        Err(_) => BlendFactor::Zero,
+impl From<Code> for TexEnvMode {
+    ghost from_gives = { λ code e. e ≡ environment_of code.number };
+
+    // Kept: a type has its own numbers, as the trait asks: one impl for a type. (2c)
+    #[tactic(auto, using(std::proofs::lemmas::Bool::Decides::nat_tests), unfolding(crate::specs::Settings::environment_of))]
+    fn from(code: Code) -> TexEnvMode {
+        match code.number {
+            1 => TexEnvMode::Replace,
+            2 => TexEnvMode::Decal,
+            3 => TexEnvMode::Blend,
+            4 => TexEnvMode::Add,
+            _ => TexEnvMode::Modulate,
+        }
     }
-}
-
-fn factor(code: u32) -> BlendFactor
-    ensures { result ≡ factor_of code }
-{
-    factor_or_zero(BlendFactor::try_from(code))
-}
-
-fn environment(code: u32) -> TexEnvMode
-    ensures { result ≡ environment_of code }
-{
-    match code {
-        1 => TexEnvMode::Replace,
-        2 => TexEnvMode::Decal,
-        3 => TexEnvMode::Blend,
-        4 => TexEnvMode::Add,
-        _ => TexEnvMode::Modulate,
-    }
-}
-
-fn color(v: &[f32; 4]) -> Rgba
-    ensures { result ≡ color_of v.now }
-{
-    Rgba {
-        r: v[0],
-        g: v[1],
-        b: v[2],
-        a: v[3],
-    }
-}
-
-fn put(out: &mut [f32; 4], v: Rgba)
-    ensures { out.new ≡ channels_of v }
-{
-    *out = [v.r, v.g, v.b, v.a];
 }
 
 #[unsafe(no_mangle)]
 pub extern "C" fn probe_resolve(code: u32, src: &[f32; 4], dst: &[f32; 4], out: &mut [f32; 4])
     ensures { out.new ≡ channels_of (resolve_of (factor_of code) (color_of src.now) (color_of dst.now)) }
 {
-    put(out, factor(code).resolve(color(src), color(dst)));
+    let factor = BlendFactor::try_from(code).unwrap_or(BlendFactor::Zero);
+    *out = <[f32; 4]>::from(factor.resolve(Rgba::from(*src), Rgba::from(*dst)));
 }
 
 #[unsafe(no_mangle)]
@@ -86,10 +53,10 @@ pub extern "C" fn probe_blend(
 )
     ensures { out.new ≡ channels_of (blend_of (factor_of src_code) (factor_of dst_code) (color_of src.now) (color_of dst.now)) }
 {
-    put(
-        out,
-        fragment::blend(factor(src_code), factor(dst_code), color(src), color(dst)),
-    );
+    let src_factor = BlendFactor::try_from(src_code).unwrap_or(BlendFactor::Zero);
+    let dst_factor = BlendFactor::try_from(dst_code).unwrap_or(BlendFactor::Zero);
+    let blended = fragment::blend(src_factor, dst_factor, Rgba::from(*src), Rgba::from(*dst));
+    *out = <[f32; 4]>::from(blended);
 }
 
 // An environment by its number: 0 Modulate, 1 Replace, 2 Decal, 3 Blend, 4 Add.
@@ -105,12 +72,14 @@ pub extern "C" fn probe_tex_env(
 {
     let stage = TextureStage {
         unit: 0,
-        env: environment(env),
-        env_color: color(env_color),
+        env: TexEnvMode::from(Code { number: env }),
+        env_color: Rgba::from(*env_color),
     };
-    put(out, fragment::apply_tex_env(stage, color(frag), color(tex)));
+    let combined = fragment::apply_tex_env(stage, Rgba::from(*frag), Rgba::from(*tex));
+    *out = <[f32; 4]>::from(combined);
 }
 
+#[tactic(auto, unfolding(fragment::specs::Fragment::fog_factor_of))]
 #[unsafe(no_mangle)]
 pub extern "C" fn probe_fog_factor(start: f32, end: f32, depth: f32) -> f32
     ensures { result ≡ clamp_of (linear_fog_of start end depth) zero32 one32 }
@@ -137,9 +106,8 @@ pub extern "C" fn probe_fogged(
     s.fog = true;
     s.fog_start = start;
     s.fog_end = end;
-    let c = color(fog_color);
-    s.fog_color = c;
-    put(out, fragment::fogged(s, depth, color(frag)));
+    s.fog_color = Rgba::from(*fog_color);
+    *out = <[f32; 4]>::from(fragment::fogged(s, depth, Rgba::from(*frag)));
 }
 
 #[unsafe(no_mangle)]

@@ -1,5 +1,7 @@
 -- Document 01, Corners, raster.rs: triangles left by clipping that write nothing. The other triangles of their fan are drawn all the same,
 -- since each is a step of its own. Assumes nothing.
+use Rattle.lists.proofs.Choice.{neither}
+use Rattle.std.proofs.lemmas.Bool.{false≢true}
 use Rattle.std.specs.Prelude.{Some, None}
 use mathlib.Core.Path.{◌≡◌, refl, sym, ◌∙◌}
 use mathlib.Core.Logic.{◌⊎◌, inl, inr}
@@ -11,7 +13,6 @@ use lib.Dec.{eqb}
 use lib.Ieee as Ieee
 use lib.Ieee.{Float, nan, inf, fin}
 use Rattle.lists.proofs.Turns.{between_keep}
-use Rattle.lists.proofs.Choice.{true_false}
 use Rattle.floats.specs.Num.{◌⊕◌, ◌⊖◌, ◌⊗◌, one32, finite_of}
 use Rattle.fragment.specs.Fragment.{depth_passes}
 use Rattle.vertices.specs.declared.Vertex.{Vertex}
@@ -87,8 +88,8 @@ torn (inf true) y e f = inl refl
 torn (inf false) nan e f = inr (inr refl)
 torn (inf false) (inf true) e f = inl refl
 torn (inf false) (inf false) e f = inl refl
-torn (inf false) (fin s m k) e f = absurd (true_false (sym f))
-torn (fin s m k) y e f = absurd (true_false (sym e))
+torn (inf false) (fin s m k) e f = absurd (false≢true f)
+torn (fin s m k) y e f = absurd (false≢true e)
 
 plus_nan : (x : Float) → x ⊕ nan ≡ nan
 unfolding Ieee.add
@@ -111,15 +112,12 @@ nan_unusable : (x : Float) → x ≡ nan → usable x ≡ false
 unfolding usable Ieee.le finite_of
 nan_unusable x e = rw e
 
-never : (t : Bool) → cond t false false ≡ false
-never true = refl
-never false = refl
-
+-- Kept: two lines, which no crate below hands out (8e)
 module _ (store : List ℕ) (d : Drawing) (t : Primitive) (b : Bool) (e : t.raster.inv_area ≡ inf b) where
   unreached : (px py : ℕ) (stored : Float) → usable (inv_w_at t.raster (weights_of t.raster px py)) ≡ false
       → fragment_of store d t (weights_of t.raster px py) stored ≡ None
   unfolding fragment_of reaches
-  unreached px py stored h = rw (h, never (depth_passes d.state (depth_at t.raster (weights_of t.raster px py)) stored))
+  unreached px py stored h = rw (h, neither (depth_passes d.state (depth_at t.raster (weights_of t.raster px py)) stored))
 
   unusable : (px py : ℕ) → ((weights_of t.raster px py).a ≡ nan) ⊎ ((weights_of t.raster px py).b ≡ nan) → usable (inv_w_at t.raster (weights_of t.raster px py)) ≡ false
   unfolding inv_w_at

@@ -1,35 +1,44 @@
 -- A loop of a fill: what is left of it from here gives the whole. How far a count can have come. Assumes nothing.
-use mathlib.Core.Path.{◌≡◌, sym, ap, ◌∙◌}
+use mathlib.Core.Path.{◌≡◌, refl, sym, ap, ◌∙◌}
 use mathlib.Core.List.{List}
 use mathlib.Core.Option.{Option, none, some}
 use Prim.Native.Nat.{ℕ, ◌+◌, ◌*◌, ◌≤◌, ◌<◌}
 use native.Mathlib.Omega.{arith}
-use lib.ListN.{length}
-use lib.Ieee.{Float}
 use Rattle.lists.specs.Lists.{between}
 use Rattle.lists.proofs.Turns.{between_more, between_done}
 use Rattle.frames.specs.State.{Pixel, pixel_at}
 use Rattle.frames.specs.Gather.{Drawn, put_pixel}
 use Rattle.coverage.specs.declared.Primitive.{Primitive}
-use Rattle.pixels.specs.Way.{Drawing, frag_at, pixel_of, drawn_to}
+use Rattle.pixels.specs.Way.{Drawing, frag_at, pixel_of}
+use Rattle.pixels.specs.declared.target.Target.{Target}
+use Rattle.pixels.specs.Targets.{drawn_on, Same}
 
--- at k of the loop to e; m and p: how many colour bytes and depths there are
-pub record Filling (step : ℕ → Drawn → Drawn) (e : ℕ) (whole : Drawn) (m p : ℕ) (cs : List ℕ) (ds : List Float) (n k : ℕ) : Type 0 where
-  pub rest : between step k e (drawn_to cs ds n) ≡ whole
-  pub colors_long : length cs ≡ m
-  pub depths_long : length ds ≡ p
+-- at k of the loop to e; first: the target where it began
+pub record Filling (step : ℕ → Drawn → Drawn) (e : ℕ) (whole : Drawn) (first now : Target) (k : ℕ) : Type 0 where
+  pub rest : between step k e (drawn_on now) ≡ whole
+  pub same : Same first now
 
-module _ {step : ℕ → Drawn → Drawn} {e : ℕ} {whole : Drawn} {m p : ℕ} {cs : List ℕ} {ds : List Float} {n k : ℕ} (f : Filling step e whole m p cs ds n k) where
-  pub fill_more : k < e → {cs' : List ℕ} {ds' : List Float} {n' : ℕ} → drawn_to cs' ds' n' ≡ step k (drawn_to cs ds n) → length cs' ≡ length cs → length ds' ≡ length ds
-      → Filling step e whole m p cs' ds' n' (k + 1)
-  fill_more h q a b = record {
-    rest = ap (between step (k + 1) e) q ∙ sym (between_more step (drawn_to cs ds n) k e h) ∙ f.rest;
-    colors_long = a ∙ f.colors_long;
-    depths_long = b ∙ f.depths_long;
+pub same_still : {t : Target} → Same t t
+same_still = record { width = refl; within = refl; pixels = refl; colors = refl; depths = refl }
+
+pub same_on : {s t u : Target} → Same s t → Same t u → Same s u
+same_on a b = record {
+  width = b.width ∙ a.width;
+  within = b.within ∙ a.within;
+  pixels = b.pixels ∙ a.pixels;
+  colors = b.colors ∙ a.colors;
+  depths = b.depths ∙ a.depths;
+}
+
+module _ {step : ℕ → Drawn → Drawn} {e : ℕ} {whole : Drawn} {first now : Target} {k : ℕ} (f : Filling step e whole first now k) where
+  pub filled_more : k < e → {next : Target} → drawn_on next ≡ step k (drawn_on now) → Same now next → Filling step e whole first next (k + 1)
+  filled_more h q s = record {
+    rest = ap (between step (k + 1) e) q ∙ sym (between_more step (drawn_on now) k e h) ∙ f.rest;
+    same = same_on f.same s;
   }
 
-  pub fill_end : e ≤ k → drawn_to cs ds n ≡ whole
-  fill_end h = sym (between_done step (drawn_to cs ds n) k e h) ∙ f.rest
+  pub fill_end : e ≤ k → drawn_on now ≡ whole
+  fill_end h = sym (between_done step (drawn_on now) k e h) ∙ f.rest
 
 -- a pixel adds 1 at most
 put_count : (c : Drawn) (p : ℕ) (o : Option Pixel) → (put_pixel c p o).count ≤ c.count + 1

@@ -1,9 +1,10 @@
 -- A triangle left by clipping: it is filled over the box that its setup gives, which lies in the scissor's, or nothing is drawn. Assumes nothing.
+use Rattle.std.proofs.lemmas.Option.{none-some}
 use Rattle.std.specs.Prelude.{Option, Some, None}
 use mathlib.Core.Path.{◌≡◌}
 use mathlib.Core.List.{List}
 use Prim.Native.Nat.{ℕ}
-use native.Mathlib.Omega.{arith}
+use Rattle.std.proofs.lemmas.Option.{none-some}
 use Rattle.settings.specs.declared.DepthRange.{DepthRange}
 use Rattle.settings.specs.declared.FrontFace.{FrontFace}
 use Rattle.vertices.specs.declared.Vertex.{Vertex}
@@ -20,11 +21,8 @@ use Rattle.pixels.specs.Way.{Drawing}
 use Rattle.raster.specs.Fill.{primitive_of, fill_of, setup_for, raster_of}
 use Rattle.settings.specs.declared.CullMode.{CullMode}
 
-never : {r : Raster} → None ≡ Some r → ⊥
-never e = let z : ◌≡◌ {A = ℕ} 0 1 = cc in omega arith
-
 through : {r : Raster} (k : Option ScreenVertex) (g : ScreenVertex → Option Raster) (P : Type 0) → ((v : ScreenVertex) → g v ≡ Some r → P) → with_corner k g ≡ Some r → P
-through None g P h e = absurd (never e)
+through None g P h e = absurd (none-some _ e)
 through (Some v) g P h e = h v e
 
 pub setup_within : (view : View) (r : DepthRange) (f : FrontFace) (cull : Option CullMode) (within : PixelBox) (a b c : Vertex) {q : Raster}

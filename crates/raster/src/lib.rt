@@ -3,30 +3,33 @@
 
 ghost use Rattle.std.specs.Prelude.{◌≡◌, ◌+◌, ◌*◌, ◌-◌, ◌<◌, ◌≤◌, length, [], ◌∷◌};
 ghost use Rattle.pixels.specs.Way.{drawn_to};
+ghost use Rattle.pixels.specs.Targets.{drawn_on, Same, Holds};
 ghost use Rattle.clip.specs.Fan.{triangle_of, fan_of, draw_each};
 ghost use Rattle.clip.specs.Clip.{clipped};
 ghost use Rattle.raster.specs.Fill.{primitive_of, row_of, fill_of, raster_of, left_drawn};
 
 use coverage::Primitive;
 use gradients::PerCorner;
+use pixels::target::Target;
 use pixels::{Paint, Staged};
 use scissor::PixelBox;
 use screen::View;
 use settings::PipelineState;
 use setup::Raster;
-use vertices::Vertex;
+use vertices::Triangle;
 
 // The pixels of a box, on a target so many pixels wide.
-#[derive(Clone, Copy)]
+#[derive(Clone, Copy, Debug, PartialEq, Eq)]
 pub struct Region {
     pub pixels: PixelBox,
     pub width: usize,
     pub ghost inside: { (pixels.x1 ≤ width) × (pixels.y1 ≤ 4096) × (width ≤ 4096) },
 }
 
+// Kept: each reads another field; a closure for all three would be handed one more for each field (3f)
 #[tactic(auto, unfolding(crate::specs::Fill::primitive_of))]
-pub fn primitive(r: Raster, a: Vertex, b: Vertex, c: Vertex) -> Primitive
-    ensures { result ≡ primitive_of r a b c }
+pub fn primitive(r: Raster, t: Triangle) -> Primitive
+    ensures { result ≡ primitive_of r t.a t.b t.c }
 {
     let derivatives = gradients::derivatives(
         PerCorner {
@@ -46,177 +49,150 @@ pub fn primitive(r: Raster, a: Vertex, b: Vertex, c: Vertex) -> Primitive
         },
         r.inv_area,
     );
+    // Kept: Primitive is no Triangle, so `..t` cannot give its corners (4j)
     Primitive {
         raster: r,
         derivatives,
-        a,
-        b,
-        c,
+        a: t.a,
+        b: t.b,
+        c: t.c,
     }
 }
 
-// The columns x0 to x1 of a row. Answers the number of pixels written so far, as all functions here do.
-fn fill_row<P: Paint>(
-    colors: &mut [u8],
-    depths: &mut [f32],
-    paint: &P,
-    t: Primitive,
-    width: usize,
-    x0: u32,
-    x1: u32,
-    py: u32,
-    written: usize,
-) -> usize
+// The columns x0 to x1 of a row.
+// Kept: a struct of triangle and target would be made anew for each row, to lend the target that it changes (5c)
+fn fill_row<P: Paint>(target: &mut Target, paint: &P, t: Primitive, x0: u32, x1: u32, py: u32)
     requires paints { P.paints paint.now t }
-    requires bounds { (x1 ≤ width) × (py < 4096) × (width ≤ 4096) × (written ≤ 900000000000) }
-    requires lengths { (py * width + width ≤ length depths.old) × (length colors.old ≡ 4 * length depths.old) }
-    ensures drawn { drawn_to colors.new depths.new result ≡ row_of (P.store paint.now) (P.drawing paint.now) t width x0 x1 py (drawn_to colors.old depths.old written) }
-    ensures count { result ≤ written + 4096 }
+    // Kept: py is one row of a loop, and a type with its bound would be made for each (5a)
+    requires bounds { (x1 ≤ target.old.width) × (py < 4096) × (target.old.written ≤ 900000000000) }
+    requires inside { py * target.old.width + target.old.width ≤ length target.old.depths.now }
+    ensures drawn { drawn_on target.new ≡ row_of (P.store paint.now) (P.drawing paint.now) t target.old.width x0 x1 py (drawn_on target.old) }
+    // Kept: a fact of the type cannot speak of the target as it was (5b)
+    ensures same { Same target.old target.new }
+    ensures count { target.new.written ≤ target.old.written + 4096 }
 {
-    let mut n = written;
     for px in x0..x1 {
-        n = paint.draw_pixel(colors, depths, t, width, py, px, n);
+        paint.draw_pixel(target, t, py, px);
     }
-    n
 }
 
 // The box's rows, from the top.
-pub fn fill<P: Paint>(
-    colors: &mut [u8],
-    depths: &mut [f32],
-    paint: &P,
-    t: Primitive,
-    region: Region,
-    written: usize,
-) -> usize
+// Kept: as fill_row; render_target's fill has its name, and writes one value (2c, 5c)
+pub fn fill<P: Paint>(target: &mut Target, paint: &P, t: Primitive, pixels: PixelBox)
     requires paints { P.paints paint.now t }
-    requires bounds { written ≤ 800000000000 }
-    requires lengths { (region.pixels.y1 * region.width ≤ length depths.old) × (length colors.old ≡ 4 * length depths.old) }
-    ensures drawn { drawn_to colors.new depths.new result ≡ fill_of (P.store paint.now) (P.drawing paint.now) t region.width region.pixels (drawn_to colors.old depths.old written) }
-    ensures count { result ≤ written + 16777216 }
+    requires inside { Holds target.old pixels }
+    // Kept: a fact of the type would end as the count grows (5a)
+    requires count { target.old.written ≤ 800000000000 }
+    ensures drawn { drawn_on target.new ≡ fill_of (P.store paint.now) (P.drawing paint.now) t target.old.width pixels (drawn_on target.old) }
+    // Kept: a fact of the type cannot speak of the target as it was (5b)
+    ensures same { Same target.old target.new }
+    // Kept: a fact of the type cannot speak of the target as it was (5b)
+    ensures count { target.new.written ≤ target.old.written + 16777216 }
 {
-    let Region { pixels, width } = region;
-    let mut n = written;
     for py in pixels.y0..pixels.y1 {
-        n = fill_row(colors, depths, paint, t, width, pixels.x0, pixels.x1, py, n);
+        fill_row(target, paint, t, pixels.x0, pixels.x1, py);
     }
-    n
 }
 
-// A draw past its checks: its settings, and what it does with a triangle that is set up, for which it may choose another paint.
+// A draw past its checks: what it does with a triangle that is set up, for which it may choose another paint.
 pub trait Draw: Paint {
-    fn state(&self) -> PipelineState
-        ensures { result ≡ (Self.drawing self.now).state };
-
-    fn fill_triangle(
-        &self,
-        colors: &mut [u8],
-        depths: &mut [f32],
-        t: Primitive,
-        region: Region,
-        written: usize,
-    ) -> usize
-        requires bounds { written ≤ 800000000000 }
-        requires lengths { (region.pixels.y1 * region.width ≤ length depths.old) × (length colors.old ≡ 4 * length depths.old) }
-        ensures drawn { drawn_to colors.new depths.new result ≡ fill_of (Self.store self.now) (Self.drawing self.now) t region.width region.pixels (drawn_to colors.old depths.old written) }
-        ensures count { result ≤ written + 16777216 };
+    // Kept: as fill, whose parameters it hands on (5c)
+    fn fill_triangle(&self, target: &mut Target, t: Primitive, pixels: PixelBox)
+        requires inside { Holds target.old pixels }
+        // Kept: a fact of the type would end where the count grows (5a)
+        requires count { target.old.written ≤ 800000000000 }
+        ensures drawn { drawn_on target.new ≡ fill_of (Self.store self.now) (Self.drawing self.now) t target.old.width pixels (drawn_on target.old) }
+        // Kept: a fact of the type cannot speak of the target as it was (5b)
+        ensures same { Same target.old target.new }
+        // Kept: a fact of the type cannot speak of the target as it was (5b)
+        ensures count { target.new.written ≤ target.old.written + 16777216 };
 }
 
 impl Draw for Staged<'_> {
-    fn state(&self) -> PipelineState {
-        self.state
-    }
-
-    fn fill_triangle(
-        &self,
-        colors: &mut [u8],
-        depths: &mut [f32],
-        t: Primitive,
-        region: Region,
-        written: usize,
-    ) -> usize {
-        fill(colors, depths, self, t, region, written)
+    // Kept: an impl repeats its trait's head (5c)
+    fn fill_triangle(&self, target: &mut Target, t: Primitive, pixels: PixelBox) {
+        fill(target, self, t, pixels);
     }
 }
 
 // One triangle left by clipping.
-fn raster_clipped<D: Draw>(
-    colors: &mut [u8],
-    depths: &mut [f32],
-    paint: &D,
-    view: View,
-    within: Region,
-    a: Vertex,
-    b: Vertex,
-    c: Vertex,
-    written: usize,
-) -> usize
-    requires bounds { written ≤ 800000000000 }
-    requires lengths { (within.pixels.y1 * within.width ≤ length depths.old) × (length colors.old ≡ 4 * length depths.old) }
-    ensures drawn { drawn_to colors.new depths.new result ≡ raster_of (D.store paint.now) (D.drawing paint.now) view within.pixels within.width (triangle_of a b c) (drawn_to colors.old depths.old written) }
-    ensures count { result ≤ written + 16777216 }
+// Kept: a struct of the four would lend the target that each call changes, made anew for each triangle of a fan (5c)
+fn raster_clipped<D: Draw>(target: &mut Target, paint: &D, view: View, t: Triangle)
+    // Kept: a fact of the type would end where the count grows (5a)
+    requires { target.old.written ≤ 800000000000 }
+    ensures drawn { drawn_on target.new ≡ raster_of (D.store paint.now) (D.drawing paint.now) view target.old.within target.old.width (triangle_of t.a t.b t.c) (drawn_on target.old) }
+    // Kept: a fact of the type cannot speak of the target as it was (5b)
+    ensures same { Same target.old target.new }
+    // Kept: a fact of the type cannot speak of the target as it was (5b)
+    ensures count { target.new.written ≤ target.old.written + 16777216 }
 {
     let state = paint.state();
     let range = state.depth_range;
     let front_face = state.front_face;
     let cull = state.cull;
-    let Some(raster) = setup::setup_triangle(view, range, front_face, cull, within.pixels, a, b, c)
-    else {
-        return written;
+    let within = target.within;
+    let Some(raster) = setup::setup_triangle(view, range, front_face, cull, within, t) else {
+        return;
     };
-    let region = Region {
-        pixels: raster.pixels,
-        width: within.width,
-    };
-    let t = primitive(raster, a, b, c);
-    paint.fill_triangle(colors, depths, t, region, written)
+    paint.fill_triangle(target, primitive(raster, t), raster.pixels);
 }
 
 // The fan of the polygon that clipping leaves.
-fn draw_fan<D: Draw>(
-    colors: &mut [u8],
-    depths: &mut [f32],
-    paint: &D,
-    view: View,
-    within: Region,
-    a: Vertex,
-    b: Vertex,
-    c: Vertex,
-) -> usize
-    requires { (within.pixels.y1 * within.width ≤ length depths.old) × (length colors.old ≡ 4 * length depths.old) }
-    ensures { drawn_to colors.new depths.new result ≡ draw_each (raster_of (D.store paint.now) (D.drawing paint.now) view within.pixels within.width) (fan_of (clipped (a ∷ b ∷ c ∷ []))) (drawn_to colors.old depths.old 0) }
+// Kept: as raster_clipped (5c)
+fn draw_fan<D: Draw>(target: &mut Target, paint: &D, view: View, t: Triangle)
+    requires { target.old.written ≡ 0 }
+    ensures drawn { drawn_on target.new ≡ draw_each (raster_of (D.store paint.now) (D.drawing paint.now) view target.old.within target.old.width) (fan_of (clipped (t.a ∷ t.b ∷ t.c ∷ []))) (drawn_on target.old) }
+    // Kept: a fact of the type cannot speak of the target as it was (5b)
+    ensures same { Same target.old target.new }
 {
-    let polygon = clip::clip_triangle(a, b, c);
+    let polygon = clip::clip_triangle(t);
     let corners = polygon.corners();
     if corners.len() < 3 {
-        return 0;
+        return;
     }
-    let first = corners[0];
-    let mut n: usize = 0;
+    let a = corners[0];
     for i in 1..corners.len() - 1 {
-        let second = corners[i];
-        let third = corners[i + 1];
-        n = raster_clipped(colors, depths, paint, view, within, first, second, third, n);
+        let b = corners[i];
+        let c = corners[i + 1];
+        raster_clipped(target, paint, view, Triangle { a, b, c });
     }
-    n
 }
 
-// All that clipping leaves of a triangle, on a target so many pixels wide, in the pixels of a scissor's box.
+// All that clipping leaves of a triangle.
+// Kept: as raster_clipped (5c)
+fn draw_into<D: Draw>(target: &mut Target, paint: &D, view: View, t: Triangle)
+    requires { target.old.written ≡ 0 }
+    ensures drawn { drawn_on target.new ≡ left_drawn (D.store paint.now) (D.drawing paint.now) view target.old.within target.old.width t.a t.b t.c (drawn_on target.old) }
+    // Kept: a fact of the type cannot speak of the target as it was (5b)
+    ensures same { Same target.old target.new }
+{
+    if clip::all_inside(t) {
+        raster_clipped(target, paint, view, t);
+        return;
+    }
+    draw_fan(target, paint, view, t);
+}
+
+// The same on colours and depths, in the pixels of a scissor's box. Answers the number of pixels written.
+// Kept: C lends colours and depths apart, and the target is made of them here (5c, 6c)
 pub fn draw_left<D: Draw>(
     colors: &mut [u8],
     depths: &mut [f32],
     paint: &D,
     view: View,
     within: Region,
-    a: Vertex,
-    b: Vertex,
-    c: Vertex,
+    t: Triangle,
 ) -> usize
     requires { (within.pixels.y1 * within.width ≤ length depths.old) × (length colors.old ≡ 4 * length depths.old) }
-    ensures { drawn_to colors.new depths.new result ≡ left_drawn (D.store paint.now) (D.drawing paint.now) view within.pixels within.width a b c (drawn_to colors.old depths.old 0) }
+    ensures { drawn_to colors.new depths.new result ≡ left_drawn (D.store paint.now) (D.drawing paint.now) view within.pixels within.width t.a t.b t.c (drawn_to colors.old depths.old 0) }
 {
-    if clip::all_inside(a, b, c) {
-        return raster_clipped(colors, depths, paint, view, within, a, b, c, 0);
-    }
-    draw_fan(colors, depths, paint, view, within, a, b, c)
+    let mut target = Target {
+        colors,
+        depths,
+        width: within.width,
+        within: within.pixels,
+        written: 0,
+    };
+    draw_into(&mut target, paint, view, t);
+    target.written
 }

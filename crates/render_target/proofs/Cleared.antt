@@ -1,4 +1,5 @@
 -- Filling the rows of the cut box leaves what the clear's definition says. Assumes nothing.
+use Rattle.std.proofs.lemmas.Bool.{false≢true, and_parts, and_from}
 use Rattle.std.specs.Prelude.{Option, Some, None}
 use Prim.Native.Nat.{ℕ, zero, suc, ◌+◌, ◌-◌, ◌*◌, ◌/◌, ◌%◌, ◌≤◌, ◌<◌}
 use mathlib.Core.Path.{◌≡◌, refl, sym, ap, ◌∙◌}
@@ -13,10 +14,10 @@ use lib.ListN.{length, get_or}
 use borrow.Author.Tests.{le-leb, lt-ltb, lt-leb, le-ltb}
 use Rattle.lists.specs.Lists.{tab, turns, between}
 use Rattle.lists.proofs.Tables.{length_tab}
-use Rattle.lists.proofs.Choice.{true_false}
 use Rattle.scissor.specs.Scissor.{pixel_in, bounds_of, in_bounds}
 use Rattle.render_target.specs.Clear.{cleared_of, span_of, rows_of}
-use Rattle.scissor.proofs.Boxes.{same_truth, both, split, span, in_span, to_span, bounds_are}
+use Rattle.scissor.proofs.Boxes.{same_truth, span, in_span, to_span, bounds_are}
+use Rattle.std.proofs.lemmas.Bool.{and_from, and_parts}
 use Rattle.render_target.proofs.Spans.{length_span, span_at, at_places, table_is}
 use Rattle.scissor.specs.declared.PixelBox.{PixelBox}
 use Rattle.settings.specs.declared.ScissorBox.{ScissorBox}
@@ -39,9 +40,9 @@ in_row w x0 x1 y p h =
     (λ t.
     let s = in_span (y * w + x0) (y * w + x1) p t in
     let q = row_column w y p (p - y * w) (omega arith) (omega arith) in
-    both (to_span x0 x1 (p % w) (omega arith) (omega arith)) (to_span y (y + 1) (p / w) (omega arith) (omega arith)))
+    and_from _ _ (to_span x0 x1 (p % w) (omega arith) (omega arith)) (to_span y (y + 1) (p / w) (omega arith) (omega arith)))
     (λ t.
-    let s = split (span x0 x1 (p % w)) (span y (y + 1) (p / w)) t in
+    let s = and_parts (span x0 x1 (p % w)) (span y (y + 1) (p / w)) t in
     let x = in_span x0 x1 (p % w) s.0 in
     let r = in_span y (y + 1) (p / w) s.1 in
     let d : p / w ≡ y = omega arith in
@@ -64,7 +65,7 @@ join true false u s a g e = rw (sym e)
 none_at : (c : Bool) (y r : ℕ) → (c && span y (y + 0) r) ≡ false
 none_at false y r = refl
 none_at true y r =
-    same_truth (span y (y + 0) r) false (λ t. absurd (omega (arith, in_span y (y + 0) r t))) (λ t. absurd (true_false (sym t)))
+    same_truth (span y (y + 0) r) false (λ t. absurd (omega (arith, in_span y (y + 0) r t))) (λ t. absurd (false≢true t))
 
 module _ {A : Type 0} (k : ℕ) (v : ℕ → A) (z : A) (w x0 x1 : ℕ) (hk : 0 < k) (hx : x1 ≤ w) where
   abbrev step : ℕ → List A → List A

@@ -11,10 +11,12 @@ use native.Mathlib.Nat.{suc-mul, mul-le-mul_right}
 use lib.Arith.{lt_of_le-ne, digits_mod}
 use native.Mathlib.Decide.{ℕ_discrete}
 use borrow.Author.Tests.{leb-true, ltb-true, le-leb, lt-ltb}
+use Rattle.std.proofs.lemmas.Bool.{and_parts}
 use Rattle.lists.specs.Lists.{tab}
 use Rattle.lists.proofs.Tables.{length_tab, get_or_tab}
 use Rattle.render_target.specs.Clear.{span_of, element_at}
-use Rattle.scissor.proofs.Boxes.{same_truth, split}
+use Rattle.scissor.proofs.Boxes.{same_truth}
+use Rattle.std.proofs.lemmas.Bool.{and_parts}
 
 -- a table over a list's places
 module _ {A : Type 0} (f : ℕ → A) (z : A) (l : List A) where
@@ -48,7 +50,7 @@ module _ {A : Type 0} (v : ℕ → A) (z : A) (l : List A) where
     where
       out : (i : ℕ) (t : Bool) → (leb a i && ltb i e) ≡ t → cond t (v i) (get_or l i z) ≡ get_or l i z
       out i false p = refl
-      out i true p = absurd (omega (arith, leb-true a i (split (leb a i) (ltb i e) p).0, ltb-true i e (split (leb a i) (ltb i e) p).1))
+      out i true p = absurd (omega (arith, leb-true a i (and_parts (leb a i) (ltb i e) p).0, ltb-true i e (and_parts (leb a i) (ltb i e) p).1))
 
   -- one element more
   more_at : (a e i : ℕ) → a ≤ e → e < length l → i < length l → Dec (i ≡ e) → get_or (set (span_of v z a e l) e (v e)) i z ≡ get_or (span_of v z a (e + 1) l) i z

@@ -11,12 +11,15 @@ use scissor::PixelBox;
 use settings::ScissorBox;
 
 // The pixels from `from` to `to`, of K elements each.
+// Kept: raster's fill walks a box's rows and draws a triangle's pixels there, and has the name alone in common (2c)
 fn fill<T: Copy, const K: usize>(items: &mut [T], from: usize, to: usize, value: [T; K])
+    // Kept: no caller's end is before its start, and without the clause the proofs would have that case too (5a)
     requires { (from ≤ to) × (to * K ≤ length items.old) }
     ensures { (z : T) → items.new ≡ span_of (element_at K value z) z (from * K) (to * K) items.old }
 {
-    // Kept: indices: `copy_from_slice` tests each pixel for overlap, by which a clear of depths takes four times as long.
+    // Kept: an index: of what `chunks_exact_mut(K)` lends a proof knows only the length, and `returns` stays open (3c)
     for pixel in from..to {
+        // Kept: `copy_from_slice` tests each pixel for overlap, by which a clear of depths takes four times as long (3c, 4k)
         for i in 0..K {
             items[pixel * K + i] = value[i];
         }
@@ -24,9 +27,11 @@ fn fill<T: Copy, const K: usize>(items: &mut [T], from: usize, to: usize, value:
 }
 
 fn fill_rows<T: Copy, const K: usize>(items: &mut [T], width: usize, b: PixelBox, value: [T; K])
+    // Kept: K = 0 would be a case of its own in each proof, and no caller has it (5a)
     requires { (0 < K) × (b.x0 ≤ b.x1) × (b.x1 ≤ width) × (b.y1 * width * K ≤ length items.old) }
     ensures { (z : T) → items.new ≡ rows_of K (element_at K value z) z width b.x0 b.y0 b.x1 b.y1 items.old }
 {
+    // Kept: a row from `chunks_exact_mut` would be a slice of which a proof knows only the length, as in `fill` (3d)
     for y in b.y0 as usize..b.y1 as usize {
         let row = y * width;
         fill(items, row + b.x0 as usize, row + b.x1 as usize, value);
@@ -35,6 +40,7 @@ fn fill_rows<T: Copy, const K: usize>(items: &mut [T], width: usize, b: PixelBox
 
 // The box's rows, at once where they are whole rows of the target.
 fn fill_box<T: Copy, const K: usize>(items: &mut [T], width: usize, b: PixelBox, value: [T; K])
+    // Kept: K is as for `fill_rows` (5a)
     requires { (0 < K) × (b.x0 ≤ b.x1) × (b.x1 ≤ width) × (b.y0 ≤ b.y1) × (b.y1 * width * K ≤ length items.old) }
     ensures { (z : T) → items.new ≡ rows_of K (element_at K value z) z width b.x0 b.y0 b.x1 b.y1 items.old }
 {
@@ -46,6 +52,7 @@ fn fill_box<T: Copy, const K: usize>(items: &mut [T], width: usize, b: PixelBox,
 }
 
 // The pixels in the scissor box.
+// Kept: sides and scissor are read once, for the box; as a struct they would be made for this call alone. (5c)
 fn clear<T: Copy, const K: usize>(
     items: &mut [T],
     width: u32,
@@ -53,6 +60,7 @@ fn clear<T: Copy, const K: usize>(
     value: [T; K],
     scissor: Option<ScissorBox>,
 )
+    // Kept: K is as for `fill_rows` (5a)
     requires { (0 < K) × (length items.old ≡ K * (width * height)) }
     ensures { (z : T) → items.new ≡ cleared_of K (λ c. get_or value c z) z width height scissor items.old }
 {
@@ -62,6 +70,8 @@ fn clear<T: Copy, const K: usize>(
 }
 
 // Clears the colours in the scissor box.
+// Kept: check 1 is of sides and lengths as the caller has them: a struct of checked ones would ask more of callers, and one of unchecked
+// ones would carry no fact; nothing reads the depths, and a slice of them would ask more too (5c, 6b)
 pub fn clear_color(
     colors: &mut [u8],
     depths_len: usize,
@@ -84,6 +94,8 @@ pub fn clear_color(
 }
 
 // Clears the depths in the scissor box.
+// Kept: what it shares with `clear_color` is `clear`; the checks, in document 01's order, end with one that a colour lacks. The parameters
+// are as there (2e, 5c, 6b)
 pub fn clear_depth(
     depths: &mut [f32],
     colors_len: usize,

@@ -24,6 +24,7 @@ pub struct Tally {
 }
 
 // One more number under the checksum.
+#[tactic(auto, unfolding(crate::specs::Record::step_of))]
 fn step(sum: u64, value: u64) -> u64
     ensures { result ≡ step_of sum value }
 {
@@ -86,6 +87,7 @@ pub fn next<'a, R: Read>(input: &mut R, buffer: &'a mut [u8]) -> Option<&'a [u8]
 }
 
 // Tallies the entries of a record, each judged by `is_right`.
+// Kept: it is the one run of a record; those of run_cases have its name and nothing else of it (7b)
 pub fn run<R: Read, F: FnMut(&[u8]) -> bool>(
     input: &mut R,
     buffer: &mut [u8],
@@ -95,7 +97,7 @@ pub fn run<R: Read, F: FnMut(&[u8]) -> bool>(
     ensures { IsTallyOfRecord F.FnMut (R.remaining input.old) is_right result }
 {
     let mut tally = Tally::default();
-    // A proved loop has to end, and nothing says that the input does.
+    // Kept: a proved loop has to end, and nothing says that the input does (3e)
     for _ in 0..u64::MAX {
         let Some(entry) = next(input, buffer) else {
             break;
@@ -114,6 +116,7 @@ pub fn replay<F: FnMut(&[u8]) -> bool>(rt: &(impl Input + Print), is_right: F)
 }
 
 // The byte at an index, 0 past the end.
+// Kept: an entry may end anywhere, and what is missing is judged as 0: an Option would be unwrapped to it at each of its calls (1n)
 pub fn byte_at(b: &[u8], at: usize) -> u8
     ensures { result ≡ byte_or0 b.now at }
 {
@@ -121,6 +124,7 @@ pub fn byte_at(b: &[u8], at: usize) -> u8
 }
 
 // The N bytes from an index on; those past the end are 0.
+#[tactic(auto, using(crate::proofs::Words::saturated))]
 pub fn bytes_at<const N: usize>(b: &[u8], at: usize) -> [u8; N]
     ensures { EachIndex result (λ k. slice_index result k ≡ byte_or0 b.now (at + k)) }
 {
@@ -132,6 +136,8 @@ pub fn bytes_at<const N: usize>(b: &[u8], at: usize) -> [u8; N]
 }
 
 // A number of 2 bytes, the low one first; bytes past the end are 0.
+// Kept: a generic one needs a trait whose impls are these three lines, each with its own definition; 0 as byte_at (1n, 2a)
+#[tactic(auto, using(crate::proofs::Words::of_two))]
 pub fn u16_at(b: &[u8], at: usize) -> u16
     ensures { result ≡ word16_of b.now at }
 {
@@ -139,6 +145,8 @@ pub fn u16_at(b: &[u8], at: usize) -> u16
 }
 
 // A number of 4 bytes, the low one first; bytes past the end are 0.
+// Kept: as u16_at; 0 as byte_at (1n, 2a, 2e)
+#[tactic(auto, using(crate::proofs::Words::of_four))]
 pub fn u32_at(b: &[u8], at: usize) -> u32
     ensures { result ≡ word32_of b.now at }
 {
@@ -146,6 +154,8 @@ pub fn u32_at(b: &[u8], at: usize) -> u32
 }
 
 // A number of 8 bytes, the low one first; bytes past the end are 0.
+// Kept: as u16_at; 0 as byte_at (1n, 2a)
+#[tactic(auto, using(crate::proofs::Words::of_eight))]
 pub fn u64_at(b: &[u8], at: usize) -> u64
     ensures { result ≡ word64_of b.now at }
 {
@@ -160,6 +170,7 @@ pub fn f32_at(b: &[u8], at: usize) -> f32
 }
 
 // Whether b is the zero a. The reciprocals of a zero and of a small subnormal are the same infinity, so b is held to zero first.
+#[tactic(auto, unfolding(crate::specs::Record::same_zero_of))]
 fn same_zero(a: f32, b: f32) -> bool
     ensures { result ≡ same_zero_of a b }
 {
@@ -168,6 +179,7 @@ fn same_zero(a: f32, b: f32) -> bool
 
 // Whether two floats are the same: NaN is NaN, and a zero has its sign.
 // Kept: the bits tell NaNs apart, and std's total order asks that there is none.
+#[tactic(auto, using(std::proofs::lemmas::Bool::Decides::nat_tests), unfolding(crate::specs::Record::same_of))]
 pub fn same(a: f32, b: f32) -> bool
     ensures { result ≡ same_of a b }
 {
@@ -211,6 +223,7 @@ impl Item for u8 {
         byte_at(b, at)
     }
 
+    // Kept: the byte is the value, and no code (1m)
     fn is_same(self, other: u8) -> bool {
         self == other
     }

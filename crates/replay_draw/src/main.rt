@@ -5,6 +5,7 @@
 #![tactic(auto)]
 
 use answers::Refusal;
+use vertices::Triangle;
 
 // Where settings, vertices, units and stages start in an entry.
 const SETTINGS: usize = 32;
@@ -15,14 +16,8 @@ const UNITS: usize = 380;
 
 const STAGES: usize = 1356;
 
-fn is_answer(answer: Result<usize, Refusal>, number: u32, count: u32) -> bool {
-    match answer {
-        Ok(n) => number == 0 && n == count as usize,
-        Err(why) => why.number() == number,
-    }
-}
-
 // The draw of the layouts, if all four hold something: by its own way where no stage is in use.
+// Kept: load and are_same take the colours or the depths alone, and the draw takes them side by side (5c, 6c)
 fn drawn(
     entry: &[u8],
     stages: &[u8],
@@ -39,8 +34,9 @@ fn drawn(
     let [a, b, c] = draw_layouts::read_vertices(&entry[VERTICES..UNITS])?;
     let width = replay::u32_at(entry, 0);
     let height = replay::u32_at(entry, 4);
+    let t = Triangle { a, b, c };
     if stages.count == 0 {
-        return Some(draw::plain::draw_triangle(colors, depths, width, height, state, a, b, c));
+        return Some(draw::plain::draw_triangle(colors, depths, width, height, state, t));
     }
     Some(draw::draw_triangle(
         colors,
@@ -52,26 +48,12 @@ fn drawn(
         state,
         stages.first,
         stages.count,
-        a,
-        b,
-        c,
+        t,
     ))
 }
 
-fn is_answered_right(
-    entry: &[u8],
-    stages: &[u8],
-    store: &[u8],
-    colors: &mut [u8],
-    depths: &mut [f32],
-) -> bool {
-    match drawn(entry, stages, store, colors, depths) {
-        Some(answer) => is_answer(answer, replay::u32_at(entry, 8), replay::u32_at(entry, 12)),
-        None => false,
-    }
-}
-
 // The call on the colours and depths of before: its answer, and that it leaves those of after.
+// Kept: as drawn (5c, 6c)
 fn is_right(entry: &[u8], colors: &mut [u8], depths: &mut [f32]) -> bool {
     let k = (replay::u32_at(entry, 16) as usize).min(168);
     let l = (replay::u32_at(entry, 20) as usize).min(640);
@@ -87,14 +69,20 @@ fn is_right(entry: &[u8], colors: &mut [u8], depths: &mut [f32]) -> bool {
     };
     replay::load(colors, entry, before);
     replay::load(depths, entry, before + n);
-    let after = before + n + m * 4;
-    is_answered_right(
+    let Some(answer) = drawn(
         entry,
         &entry[STAGES..store],
         &entry[store..before],
         colors,
         depths,
-    ) && replay::are_same(colors, entry, after)
+    ) else {
+        return false;
+    };
+    let after = before + n + m * 4;
+    // A refused call has no count.
+    answers::number(answer) == replay::u32_at(entry, 8)
+        && answer.unwrap_or(0) == replay::u32_at(entry, 12) as usize
+        && replay::are_same(colors, entry, after)
         && replay::are_same(depths, entry, after + n)
 }
 

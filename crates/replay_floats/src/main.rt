@@ -2,70 +2,63 @@
 // An entry: the helper's code, three operands by their bits (4 bytes each), whether the answer is below zero, the answer (8 bytes).
 #![tactic(auto)]
 
-// The helpers that answer a float.
-fn float(code: u8, a: f32, b: f32, c: f32) -> f32 {
-    match code {
-        0 => floats::min(a, b),
-        1 => floats::max(a, b),
-        2 => floats::clamp(a, b, c),
-        3 => floats::abs(a),
-        4 => a,
-        5 => rounding::floor(a),
-        6 => rounding::ceil(a),
-        7 => rounding::round(a),
-        _ => a,
-    }
+use std::num::{
+    saturating_f32_to_i32, saturating_f32_to_i64, saturating_f32_to_u8, saturating_f32_to_u32,
+};
+
+// What a helper answers: a float, a number from 0 up or whether something holds, a signed number.
+#[derive(Clone, Copy, Debug, PartialEq)]
+enum Answer {
+    Float(f32),
+    Number(u64),
+    Whole(i64),
 }
 
-// The helpers that answer a number from 0 up, or whether something holds.
-fn number(code: u8, a: f32) -> u64 {
-    match code {
-        10 => a.is_nan() as u64,
-        11 => floats::is_finite(a) as u64,
-        12 => floats::is_bounded(a) as u64,
-        13 => std::num::saturating_f32_to_u8(a) as u64,
-        14 => std::num::saturating_f32_to_u32(a) as u64,
-        15 => channels::to_byte(a) as u64,
-        16 => channels::rounded_byte(a) as u64,
-        _ => 0,
-    }
-}
-
-// The helpers that answer a signed number.
-fn whole(code: u8, a: f32) -> i64 {
-    match code {
-        20 => i64::from(std::num::saturating_f32_to_i32(rounding::floor(a))),
-        21 => i64::from(std::num::saturating_f32_to_i32(rounding::ceil(a))),
-        22 => i64::from(std::num::saturating_f32_to_i32(rounding::ceil(a)).saturating_add(1)),
-        23 => std::num::saturating_f32_to_i64(rounding::floor(a)),
-        24 => std::num::saturating_f32_to_i64(rounding::floor(a)).saturating_add(1),
-        25 => i64::from(std::num::saturating_f32_to_i32(a)),
-        _ => std::num::saturating_f32_to_i64(a),
-    }
+// Kept: each code stands once, beside its helper; with an enum of the helpers it would stand in try_from, and the helper in a match besides (1l, 7a)
+fn answer_to(entry: &[u8]) -> Option<Answer> {
+    let code = replay::byte_at(entry, 0);
+    let a = replay::f32_at(entry, 1);
+    let b = replay::f32_at(entry, 5);
+    Some(match code {
+        0 => Answer::Float(floats::min(a, b)),
+        1 => Answer::Float(floats::max(a, b)),
+        2 => Answer::Float(floats::clamp(a, b, replay::f32_at(entry, 9))),
+        3 => Answer::Float(floats::abs(a)),
+        4 => Answer::Float(a),
+        5 => Answer::Float(rounding::floor(a)),
+        6 => Answer::Float(rounding::ceil(a)),
+        7 => Answer::Float(rounding::round(a)),
+        8 => Answer::Float(channels::to_unit(replay::byte_at(entry, 1))),
+        10 => Answer::Number(u64::from(a.is_nan())),
+        11 => Answer::Number(u64::from(floats::is_finite(a))),
+        12 => Answer::Number(u64::from(floats::is_bounded(a))),
+        13 => Answer::Number(u64::from(saturating_f32_to_u8(a))),
+        14 => Answer::Number(u64::from(saturating_f32_to_u32(a))),
+        15 => Answer::Number(u64::from(channels::to_byte(a))),
+        16 => Answer::Number(u64::from(channels::rounded_byte(a))),
+        20 => Answer::Whole(i64::from(saturating_f32_to_i32(rounding::floor(a)))),
+        21 => Answer::Whole(i64::from(saturating_f32_to_i32(rounding::ceil(a)))),
+        22 => Answer::Whole(i64::from(saturating_f32_to_i32(rounding::ceil(a)).saturating_add(1))),
+        23 => Answer::Whole(saturating_f32_to_i64(rounding::floor(a))),
+        24 => Answer::Whole(saturating_f32_to_i64(rounding::floor(a)).saturating_add(1)),
+        25 => Answer::Whole(i64::from(saturating_f32_to_i32(a))),
+        26 => Answer::Whole(saturating_f32_to_i64(a)),
+        _ => return None,
+    })
 }
 
 fn is_right(entry: &[u8]) -> bool {
-    let code = replay::byte_at(entry, 0);
-    if code == 8 {
-        return replay::same(
-            channels::to_unit(replay::byte_at(entry, 1)),
-            replay::f32_at(entry, 14),
-        );
+    let right = replay::u64_at(entry, 14);
+    match answer_to(entry) {
+        Some(Answer::Float(x)) => replay::same(x, replay::f32_at(entry, 14)),
+        Some(Answer::Number(n)) => n == right,
+        // One below zero is recorded as -1 - z.
+        Some(Answer::Whole(z)) => {
+            let from_zero = if z < 0 { !z } else { z };
+            replay::byte_at(entry, 13) == u8::from(z < 0) && from_zero.unsigned_abs() == right
+        }
+        None => false,
     }
-    let a = replay::f32_at(entry, 1);
-    if code < 10 {
-        let answer = float(code, a, replay::f32_at(entry, 5), replay::f32_at(entry, 9));
-        return replay::same(answer, replay::f32_at(entry, 14));
-    }
-    let answer = replay::u64_at(entry, 14);
-    if code < 20 {
-        return number(code, a) == answer;
-    }
-    let z = whole(code, a);
-    if z < 0 {
-        return replay::byte_at(entry, 13) == 1 && z.unsigned_abs() - 1 == answer;
-    }
-    replay::byte_at(entry, 13) == 0 && z.unsigned_abs() == answer
 }
 
 fn main(rt: HostRuntime) {

@@ -15,6 +15,7 @@ use std::array;
 const HEAD: usize = 228;
 
 fn level_from(entry: &[u8], k: usize) -> MipLevel
+    // Kept: array::from_fn calls it with the numbers below 11 alone. (5a)
     requires { k < 11 }
 {
     let at = k * 16;
@@ -30,39 +31,58 @@ fn levels_from(entry: &[u8]) -> [MipLevel; 11] {
     array::from_fn(|k| level_from(entry, k))
 }
 
-fn wrap_from(n: u32) -> Wrap {
-    match n {
-        0 => Wrap::Repeat,
-        _ => Wrap::ClampToEdge,
+// A setting by its number in an entry.
+#[derive(Clone, Copy, Debug, PartialEq, Eq, Hash)]
+struct Code {
+    number: u32,
+}
+
+fn code_at(entry: &[u8], at: usize) -> Code {
+    Code {
+        number: replay::u32_at(entry, at),
     }
 }
 
-fn filter_from(n: u32) -> Filter {
-    match n {
-        0 => Filter::Nearest,
-        _ => Filter::Linear,
+impl From<Code> for Wrap {
+    fn from(code: Code) -> Wrap {
+        match code.number {
+            0 => Wrap::Repeat,
+            _ => Wrap::ClampToEdge,
+        }
     }
 }
 
-fn min_from(n: u32) -> MinFilter {
-    match n {
-        0 => MinFilter::Nearest,
-        1 => MinFilter::Linear,
-        2 => MinFilter::NearestMipmapNearest,
-        3 => MinFilter::LinearMipmapNearest,
-        4 => MinFilter::NearestMipmapLinear,
-        _ => MinFilter::LinearMipmapLinear,
+impl From<Code> for Filter {
+    fn from(code: Code) -> Filter {
+        match code.number {
+            0 => Filter::Nearest,
+            _ => Filter::Linear,
+        }
     }
 }
 
+impl From<Code> for MinFilter {
+    fn from(code: Code) -> MinFilter {
+        match code.number {
+            0 => MinFilter::Nearest,
+            1 => MinFilter::Linear,
+            2 => MinFilter::NearestMipmapNearest,
+            3 => MinFilter::LinearMipmapNearest,
+            4 => MinFilter::NearestMipmapLinear,
+            _ => MinFilter::LinearMipmapLinear,
+        }
+    }
+}
+
+// Kept: the probes' record is a slice of numbers, this one an entry's bytes at places of their own. (2c)
 fn texture_from(entry: &[u8]) -> Texture {
     Texture {
         levels: levels_from(entry),
         max_mipmap_level: replay::u32_at(entry, 176) as usize,
-        min_filter: min_from(replay::u32_at(entry, 180)),
-        mag_filter: filter_from(replay::u32_at(entry, 184)),
-        wrap_s: wrap_from(replay::u32_at(entry, 188)),
-        wrap_t: wrap_from(replay::u32_at(entry, 192)),
+        min_filter: MinFilter::from(code_at(entry, 180)),
+        mag_filter: Filter::from(code_at(entry, 184)),
+        wrap_s: Wrap::from(code_at(entry, 188)),
+        wrap_t: Wrap::from(code_at(entry, 192)),
     }
 }
 
@@ -77,8 +97,9 @@ fn coordinates_from(entry: &[u8]) -> Coordinates {
     }
 }
 
-fn is_texel(x: Texel, entry: &[u8]) -> bool {
-    [x.r, x.g, x.b, x.a] == replay::bytes_at(entry, 224)
+fn texel_from(entry: &[u8]) -> Texel {
+    let [r, g, b, a] = replay::bytes_at::<4>(entry, 224);
+    Texel { r, g, b, a }
 }
 
 fn is_right(entry: &[u8]) -> bool {
@@ -89,7 +110,7 @@ fn is_right(entry: &[u8]) -> bool {
     let texture = texture_from(entry);
     let p = coordinates_from(entry);
     match sampler::sample(&entry[HEAD..], texture, p) {
-        Ok(x) => answer == 0 && is_texel(x, entry),
+        Ok(x) => answer == 0 && x == texel_from(entry),
         Err(why) => why.number() == answer,
     }
 }

@@ -3,112 +3,152 @@
 // for steps 7 and 8 a code and the number that reading it answers.
 #![tactic(auto)]
 
-ghost use Rattle.std.specs.Prelude.{◌<◌};
-
+use answers::Refusal;
 use settings::{BlendFactor, CompareFunc, PipelineState, Rgba, TexEnvMode, TextureStage};
 
-fn compare(code: u32) -> CompareFunc {
-    CompareFunc::try_from(code).unwrap_or(CompareFunc::Never)
+// What an entry has the answer of.
+#[derive(Clone, Copy, Debug, PartialEq, Eq)]
+enum Step {
+    Test,
+    Resolve,
+    Blend,
+    Environment,
+    FogFactor,
+    Fogged,
+    Mask,
+    ReadCompare,
+    ReadFactor,
 }
 
-fn factor(code: u32) -> BlendFactor {
-    BlendFactor::try_from(code).unwrap_or(BlendFactor::Zero)
-}
-
-fn environment(code: u32) -> TexEnvMode {
-    match code {
-        0 => TexEnvMode::Modulate,
-        1 => TexEnvMode::Replace,
-        2 => TexEnvMode::Decal,
-        3 => TexEnvMode::Blend,
-        _ => TexEnvMode::Add,
+// A step's number is its place above.
+impl From<u8> for Step {
+    // Kept: each record numbers its own kinds (2c)
+    fn from(n: u8) -> Step {
+        match n {
+            0 => Step::Test,
+            1 => Step::Resolve,
+            2 => Step::Blend,
+            3 => Step::Environment,
+            4 => Step::FogFactor,
+            6 => Step::Mask,
+            7 => Step::ReadCompare,
+            8 => Step::ReadFactor,
+            _ => Step::Fogged,
+        }
     }
 }
 
-fn color_at(entry: &[u8], at: usize) -> Rgba
-    requires { at < 1024 }
-{
-    Rgba {
-        r: replay::f32_at(entry, at),
-        g: replay::f32_at(entry, at + 4),
-        b: replay::f32_at(entry, at + 8),
-        a: replay::f32_at(entry, at + 12),
-    }
+// The environments by their numbers in an entry; a number past them stands for Add.
+const ENVIRONMENTS: [TexEnvMode; 4] = [
+    TexEnvMode::Modulate,
+    TexEnvMode::Replace,
+    TexEnvMode::Decal,
+    TexEnvMode::Blend,
+];
+
+#[derive(Clone, Copy, Debug, PartialEq, Eq)]
+struct Entry<'a> {
+    bytes: &'a [u8],
 }
 
-fn same(a: Rgba, b: Rgba) -> bool {
-    replay::same(a.r, b.r)
-        && replay::same(a.g, b.g)
-        && replay::same(a.b, b.b)
-        && replay::same(a.a, b.a)
+impl Entry<'_> {
+    fn step(self) -> Step {
+        Step::from(replay::byte_at(self.bytes, 0))
+    }
+
+    // The first code, and the second.
+    fn codes(self) -> (u32, u32) {
+        (replay::u32_at(self.bytes, 1), replay::u32_at(self.bytes, 5))
+    }
+
+    fn comparison(self) -> CompareFunc {
+        CompareFunc::try_from(self.codes().0).unwrap_or(CompareFunc::Never)
+    }
+
+    // The factors of both codes.
+    fn factors(self) -> (BlendFactor, BlendFactor) {
+        let (src, dst) = self.codes();
+        (
+            BlendFactor::try_from(src).unwrap_or(BlendFactor::Zero),
+            BlendFactor::try_from(dst).unwrap_or(BlendFactor::Zero),
+        )
+    }
+
+    // The first code's environment, with a colour.
+    fn stage(self, env_color: Rgba) -> TextureStage {
+        let env = ENVIRONMENTS.get(self.codes().0 as usize).copied();
+        TextureStage {
+            unit: 0,
+            env: env.unwrap_or(TexEnvMode::Add),
+            env_color,
+        }
+    }
+
+    fn color_at(self, at: usize) -> Rgba {
+        let mut channels = [0.0f32; 4];
+        replay::load(&mut channels, self.bytes, at);
+        Rgba::from(channels)
+    }
+
+    fn colors(self) -> (Rgba, Rgba, Rgba) {
+        (self.color_at(9), self.color_at(25), self.color_at(41))
+    }
+
+    fn stored(self) -> u8 {
+        replay::byte_at(self.bytes, 13)
+    }
+
+    fn has_answer(self, c: Rgba) -> bool {
+        replay::are_same(&<[f32; 4]>::from(c), self.bytes, 57)
+    }
+
+    // Whether reading a code answers the second code.
+    fn has_number<T: Copy>(self, read: Result<T, Refusal>) -> bool {
+        answers::number(read) == self.codes().1
+    }
 }
 
 // A number as the first of four floats.
-fn alone(x: f32) -> Rgba {
+fn alone(r: f32) -> Rgba {
     Rgba {
-        r: x,
-        g: 0.0,
-        b: 0.0,
-        a: 0.0,
+        r,
+        ..Rgba::default()
     }
 }
 
-fn with_fog(a: Rgba, color: Rgba) -> PipelineState {
+fn with_fog(a: Rgba, fog_color: Rgba) -> PipelineState {
     PipelineState {
         fog: true,
         fog_start: a.r,
         fog_end: a.g,
-        fog_color: color,
+        fog_color,
         ..PipelineState::new()
     }
 }
 
-fn stage(code: u32, color: Rgba) -> TextureStage {
-    TextureStage {
-        unit: 0,
-        env: environment(code),
-        env_color: color,
+fn is_right(entry: Entry) -> bool {
+    let (a, b, c) = entry.colors();
+    let (code, _) = entry.codes();
+    let (src, dst) = entry.factors();
+    match entry.step() {
+        Step::Test => {
+            let passes = entry.comparison().test(a.r, a.g);
+            entry.has_answer(alone(f32::from(u8::from(passes))))
+        }
+        Step::Resolve => entry.has_answer(src.resolve(a, b)),
+        Step::Blend => entry.has_answer(fragment::blend(src, dst, a, b)),
+        Step::Environment => entry.has_answer(fragment::apply_tex_env(entry.stage(a), b, c)),
+        Step::FogFactor => entry.has_answer(alone(fragment::fog_factor(with_fog(a, b), a.b))),
+        Step::Fogged => entry.has_answer(fragment::fogged(with_fog(a, b), a.b, c)),
+        Step::Mask => {
+            let byte = fragment::masked_byte(code == 1, a.r, entry.stored());
+            entry.has_answer(alone(f32::from(byte)))
+        }
+        Step::ReadCompare => entry.has_number(CompareFunc::try_from(code)),
+        Step::ReadFactor => entry.has_number(BlendFactor::try_from(code)),
     }
-}
-
-fn masked(code: u32, a: Rgba, stored: u8) -> u8 {
-    fragment::masked_byte(code == 1, a.r, stored)
-}
-
-// The steps 0 to 5.
-fn step(n: u8, code: u32, other: u32, a: Rgba, b: Rgba, c: Rgba) -> Rgba {
-    match n {
-        0 => alone(f32::from(u8::from(compare(code).test(a.r, a.g)))),
-        1 => factor(code).resolve(a, b),
-        2 => fragment::blend(factor(code), factor(other), a, b),
-        3 => fragment::apply_tex_env(stage(code, a), b, c),
-        4 => alone(fragment::fog_factor(with_fog(a, b), a.b)),
-        _ => fragment::fogged(with_fog(a, b), a.b, c),
-    }
-}
-
-fn is_right(entry: &[u8]) -> bool {
-    let n = replay::byte_at(entry, 0);
-    let code = replay::u32_at(entry, 1);
-    let other = replay::u32_at(entry, 5);
-    if n == 7 {
-        return answers::number(CompareFunc::try_from(code)) == other;
-    }
-    if n == 8 {
-        return answers::number(BlendFactor::try_from(code)) == other;
-    }
-    let a = color_at(entry, 9);
-    let answer = color_at(entry, 57);
-    if n == 6 {
-        let stored = replay::byte_at(entry, 13);
-        return same(alone(f32::from(masked(code, a, stored))), answer);
-    }
-    same(
-        step(n, code, other, a, color_at(entry, 25), color_at(entry, 41)),
-        answer,
-    )
 }
 
 fn main(rt: HostRuntime) {
-    replay::replay(&rt, is_right);
+    replay::replay(&rt, |bytes| is_right(Entry { bytes }));
 }

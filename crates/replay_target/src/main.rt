@@ -4,98 +4,82 @@
 // what the call may write, before which an export has the colours, and what the Rust left of it.
 #![tactic(auto)]
 
-ghost use Rattle.std.specs.Prelude.{◌<◌};
-
+use answers::Refusal;
 use settings::ScissorBox;
 
 // Where the lent memory starts in an entry.
 const BODY: usize = 41;
 
-fn number_at(entry: &[u8], at: usize) -> i32
-    requires { at < 1024 }
-{
-    let n = (replay::u32_at(entry, at + 1) % 1073741824).cast_signed();
-    if replay::byte_at(entry, at) == 1 {
-        return n.wrapping_neg();
+#[derive(Clone, Copy, Debug, PartialEq, Eq)]
+enum Call {
+    ClearColor,
+    ClearDepth,
+    Export,
+}
+
+impl From<u8> for Call {
+    // Kept: each record numbers its own kinds (2b, 2c)
+    fn from(n: u8) -> Call {
+        match n {
+            0 => Call::ClearColor,
+            1 => Call::ClearDepth,
+            _ => Call::Export,
+        }
     }
-    n
 }
 
-fn scissor_at(entry: &[u8]) -> Option<ScissorBox> {
-    if replay::byte_at(entry, 9) == 0 {
-        return None;
+#[derive(Clone, Copy, Debug, PartialEq, Eq)]
+struct Entry<'a> {
+    bytes: &'a [u8],
+}
+
+impl Entry<'_> {
+    fn call(self) -> Call {
+        Call::from(replay::byte_at(self.bytes, 0))
     }
-    let x = number_at(entry, 10);
-    let y = number_at(entry, 15);
-    let width = number_at(entry, 20);
-    let height = number_at(entry, 25);
-    Some(ScissorBox {
-        x,
-        y,
-        width,
-        height,
-    })
+
+    // Number k of the scissor: its sign, and its size.
+    fn number(self, k: u8) -> i32 {
+        let at = 10 + 5 * usize::from(k);
+        let n = (replay::u32_at(self.bytes, at + 1) % 1073741824).cast_signed();
+        if replay::byte_at(self.bytes, at) == 1 {
+            return n.wrapping_neg();
+        }
+        n
+    }
+
+    fn scissor(self) -> Option<ScissorBox> {
+        if replay::byte_at(self.bytes, 9) == 0 {
+            return None;
+        }
+        Some(ScissorBox {
+            x: self.number(0),
+            y: self.number(1),
+            width: self.number(2),
+            height: self.number(3),
+        })
+    }
+
+    // The lengths of colours, depths and output.
+    fn lengths(self) -> (usize, usize, usize) {
+        (
+            usize::from(replay::u16_at(self.bytes, 35)),
+            usize::from(replay::u16_at(self.bytes, 37)),
+            usize::from(replay::u16_at(self.bytes, 39)),
+        )
+    }
+
+    fn is_answer(self, answer: Result<(), Refusal>) -> bool {
+        answers::number(answer) == u32::from(replay::byte_at(self.bytes, 34))
+    }
 }
 
-// What the Rust left stands at `after`.
-fn clear_color(
-    entry: &[u8],
-    colors: &mut [u8],
-    after: usize,
-    width: u32,
-    height: u32,
-    answer: u32,
-) -> bool {
-    replay::load(colors, entry, BODY);
-    let rgba = replay::bytes_at(entry, 30);
-    let depths = replay::u16_at(entry, 37) as usize;
-    let s = scissor_at(entry);
-    let got = answers::number(render_target::clear_color(colors, depths, width, height, rgba, s));
-    got == answer && replay::are_same(colors, entry, after)
-}
-
-fn clear_depth(
-    entry: &[u8],
-    depths: &mut [f32],
-    after: usize,
-    width: u32,
-    height: u32,
-    answer: u32,
-) -> bool {
-    replay::load(depths, entry, BODY);
-    let value = replay::f32_at(entry, 30);
-    let colors = replay::u16_at(entry, 35) as usize;
-    let s = scissor_at(entry);
-    let got = answers::number(render_target::clear_depth(depths, colors, width, height, value, s));
-    got == answer && replay::are_same(depths, entry, after)
-}
-
-// The output stands at `found` before the export and at `after` after it.
-fn export_565(
-    entry: &[u8],
-    colors: &mut [u8],
-    out: &mut [u8],
-    found: usize,
-    after: usize,
-    width: u32,
-    height: u32,
-    answer: u32,
-) -> bool {
-    replay::load(colors, entry, BODY);
-    replay::load(out, entry, found);
-    let depths = replay::u16_at(entry, 37) as usize;
-    let got = answers::number(export::to_rgb565(colors, depths, width, height, out));
-    got == answer && replay::are_same(out, entry, after)
-}
-
-fn is_right(entry: &[u8], colors: &mut [u8], depths: &mut [f32], out: &mut [u8]) -> bool {
-    let call = replay::byte_at(entry, 0);
-    let width = replay::u32_at(entry, 1);
-    let height = replay::u32_at(entry, 5);
-    let answer = u32::from(replay::byte_at(entry, 34));
-    let n = usize::from(replay::u16_at(entry, 35)).min(256);
-    let m = usize::from(replay::u16_at(entry, 37)).min(64);
-    let k = usize::from(replay::u16_at(entry, 39)).min(160);
+// Kept: a target's colours and depths are two buffers in the C interface (6c)
+fn is_right(entry: Entry, colors: &mut [u8], depths: &mut [f32], out: &mut [u8]) -> bool {
+    let bytes = entry.bytes;
+    let (width, height) = (replay::u32_at(bytes, 1), replay::u32_at(bytes, 5));
+    let (colors_len, depths_len, out_len) = entry.lengths();
+    let (n, m, k) = (colors_len.min(256), depths_len.min(64), out_len.min(160));
     let (Some(colors), Some(depths), Some(out)) = (
         colors.get_mut(..n),
         depths.get_mut(..m),
@@ -103,19 +87,31 @@ fn is_right(entry: &[u8], colors: &mut [u8], depths: &mut [f32], out: &mut [u8])
     ) else {
         return false;
     };
-    match call {
-        0 => clear_color(entry, colors, BODY + n, width, height, answer),
-        1 => clear_depth(entry, depths, BODY + m * 4, width, height, answer),
-        _ => export_565(
-            entry,
-            colors,
-            out,
-            BODY + n,
-            BODY + n + k,
-            width,
-            height,
-            answer,
-        ),
+    match entry.call() {
+        Call::ClearColor => {
+            replay::load(colors, bytes, BODY);
+            let rgba = replay::bytes_at(bytes, 30);
+            let scissor = entry.scissor();
+            let answer = render_target::clear_color(
+                colors, depths_len, width, height, rgba, scissor,
+            );
+            entry.is_answer(answer) && replay::are_same(colors, bytes, BODY + n)
+        }
+        Call::ClearDepth => {
+            replay::load(depths, bytes, BODY);
+            let value = replay::f32_at(bytes, 30);
+            let scissor = entry.scissor();
+            let answer = render_target::clear_depth(
+                depths, colors_len, width, height, value, scissor,
+            );
+            entry.is_answer(answer) && replay::are_same(depths, bytes, BODY + m * 4)
+        }
+        Call::Export => {
+            replay::load(colors, bytes, BODY);
+            replay::load(out, bytes, BODY + n);
+            let answer = export::to_rgb565(colors, depths_len, width, height, out);
+            entry.is_answer(answer) && replay::are_same(out, bytes, BODY + n + k)
+        }
     }
 }
 
@@ -125,6 +121,6 @@ fn main(rt: HostRuntime) {
     let mut out = [0u8; 160];
     replay::replay(
         &rt,
-        |entry| is_right(entry, &mut colors, &mut depths, &mut out),
+        |bytes| is_right(Entry { bytes }, &mut colors, &mut depths, &mut out),
     )
 }

@@ -3,6 +3,9 @@
 // then the size (8 bytes), the data, and what stands in the output afterwards.
 #![tactic(auto)]
 
+use answers::Refusal;
+use std::array;
+
 // The bytes of an entry before its data.
 const HEAD: usize = 37;
 
@@ -13,22 +16,40 @@ fn before(out: &mut [u8]) {
     }
 }
 
-fn decoded(entry: &[u8], s: &[u8], out: &mut [u8]) -> u32 {
-    let width = replay::u32_at(entry, 1);
-    let height = replay::u32_at(entry, 5);
-    let format = replay::u32_at(entry, 9);
-    let ty = replay::u32_at(entry, 13);
-    answers::number(if replay::byte_at(entry, 0) == 0 {
-        texels::decode_to_rgba(s, width, height, format, ty, out)
-    } else {
-        compressed::decode_compressed_to_rgba(s, width, height, format, out)
-    })
+// What an entry asks for.
+#[derive(Clone, Copy, Debug, PartialEq, Eq)]
+enum Operation {
+    Plain,
+    Compressed,
+    Size,
+}
+
+impl From<u8> for Operation {
+    // Kept: like the other conversions from codes, but with codes and variants of its own. (2b, 2c)
+    fn from(code: u8) -> Self {
+        match code {
+            0 => Operation::Plain,
+            2 => Operation::Size,
+            _ => Operation::Compressed,
+        }
+    }
+}
+
+fn decoded(entry: &[u8], s: &[u8], out: &mut [u8]) -> Result<(), Refusal> {
+    let [width, height, format, ty]: [u32; 4] = array::from_fn(|k| replay::u32_at(
+        entry,
+        1 + 4 * k,
+    ));
+    if Operation::from(replay::byte_at(entry, 0)) == Operation::Plain {
+        return texels::decode_to_rgba(s, width, height, format, ty, out);
+    }
+    compressed::decode_compressed_to_rgba(s, width, height, format, out)
 }
 
 // The number of a decode into `out`, and what stands there afterwards.
 fn matches(entry: &[u8], s: &[u8], wanted: &[u8], out: &mut [u8]) -> bool {
     before(out);
-    let number = decoded(entry, s, out);
+    let number = answers::number(decoded(entry, s, out));
     number == replay::u32_at(entry, 25) && &*out == wanted
 }
 
@@ -48,22 +69,21 @@ fn is_decode_right(entry: &[u8], room: &mut [u8]) -> bool {
 }
 
 fn is_size_right(entry: &[u8]) -> bool {
-    match compressed::compressed_image_size(
-        replay::u32_at(entry, 9),
-        replay::u32_at(entry, 1),
-        replay::u32_at(entry, 5),
-    ) {
+    let [width, height, format]: [u32; 3] = array::from_fn(|k| replay::u32_at(entry, 1 + 4 * k));
+    match compressed::compressed_image_size(format, width, height) {
         Ok(n) => replay::u32_at(entry, 25) == 0 && n as u64 == replay::u64_at(entry, 29),
         Err(why) => why.number() == replay::u32_at(entry, 25),
     }
 }
 
 fn is_right(entry: &[u8]) -> bool {
-    if replay::byte_at(entry, 0) == 2 {
-        return is_size_right(entry);
+    match Operation::from(replay::byte_at(entry, 0)) {
+        Operation::Size => is_size_right(entry),
+        Operation::Plain | Operation::Compressed => {
+            let mut room = [0u8; 1024];
+            is_decode_right(entry, &mut room)
+        }
     }
-    let mut room = [0u8; 1024];
-    is_decode_right(entry, &mut room)
 }
 
 fn main(rt: HostRuntime) {

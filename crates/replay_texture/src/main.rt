@@ -4,7 +4,28 @@
 #![tactic(auto)]
 
 use answers::Refusal;
-use levels::Texture;
+use std::array;
+
+// What a call on a layout that holds no record is recorded as.
+const WRONG_LAYOUT: u32 = 255;
+
+#[derive(Clone, Copy, Debug, PartialEq, Eq)]
+enum Kind {
+    Define,
+    Patch,
+    Set,
+}
+
+impl From<u8> for Kind {
+    // Kept: each record numbers its own kinds (2b, 2c)
+    fn from(n: u8) -> Kind {
+        match n {
+            0 => Kind::Define,
+            1 => Kind::Patch,
+            _ => Kind::Set,
+        }
+    }
+}
 
 // The bytes first, first + step, first + 2 step, .. modulo 256.
 fn fill(out: &mut [u8], first: u8, step: u8) {
@@ -15,57 +36,22 @@ fn fill(out: &mut [u8], first: u8, step: u8) {
     }
 }
 
-// The number of what a call answers; the record's layout is rewritten where it is done.
-fn write_back(record: &mut [u8; 244], answer: Result<Texture, Refusal>) -> u32 {
-    if let Ok(texture) = answer {
-        layouts::write_record(record, texture);
-    }
-    answers::number(answer)
-}
-
-fn define(
+// None where the layout holds no record; it is rewritten where a call that makes a new one is done.
+fn call(
+    record: &mut [u8; 244],
     store: &mut [u8],
     image: &[u8],
     entry: &[u8],
-    texture: Texture,
-) -> Result<Texture, Refusal> {
-    texture::define_level(
-        store,
-        texture,
-        replay::u32_at(entry, 1),
-        replay::u32_at(entry, 5),
-        replay::u32_at(entry, 9),
-        replay::u64_at(entry, 21) as usize,
-        image,
-    )
-}
-
-fn patch(store: &mut [u8], image: &[u8], entry: &[u8], texture: Texture) -> Result<(), Refusal> {
-    texture::patch_level(
-        store,
-        texture,
-        replay::u32_at(entry, 1),
-        replay::u32_at(entry, 5),
-        replay::u32_at(entry, 9),
-        replay::u32_at(entry, 13),
-        replay::u32_at(entry, 17),
-        image,
-    )
-}
-
-fn set(entry: &[u8], texture: Texture) -> Result<Texture, Refusal> {
-    texture::set_parameter(texture, replay::u32_at(entry, 1), replay::u32_at(entry, 5))
-}
-
-fn call(record: &mut [u8; 244], store: &mut [u8], image: &[u8], entry: &[u8]) -> u32 {
-    let Some(texture) = layouts::read_record(record) else {
-        return 255;
+) -> Option<Result<(), Refusal>> {
+    let texture = layouts::read_record(record)?;
+    let [a, b, c, d, e]: [u32; 5] = array::from_fn(|k| replay::u32_at(entry, 1 + k * 4));
+    let place = replay::u64_at(entry, 21) as usize;
+    let made = match Kind::from(replay::byte_at(entry, 0)) {
+        Kind::Define => texture::define_level(store, texture, a, b, c, place, image),
+        Kind::Patch => return Some(texture::patch_level(store, texture, a, b, c, d, e, image)),
+        Kind::Set => texture::set_parameter(texture, a, b),
     };
-    match replay::byte_at(entry, 0) {
-        0 => write_back(record, define(store, image, entry, texture)),
-        1 => answers::number(patch(store, image, entry, texture)),
-        _ => write_back(record, set(entry, texture)),
-    }
+    Some(made.map(|texture| layouts::write_record(record, texture)))
 }
 
 // The call on a store and an image of the entry's lengths: its number, and the checksums of what it leaves.
@@ -73,8 +59,9 @@ fn is_call_right(store: &mut [u8], image: &mut [u8], entry: &[u8]) -> bool {
     let mut record = replay::bytes_at(entry, 47);
     fill(store, 3, 7);
     fill(image, replay::byte_at(entry, 33), 13);
-    let number = call(&mut record, store, image, entry);
-    number == u32::from(replay::byte_at(entry, 38))
+    let answer = call(&mut record, store, image, entry);
+    answer.map_or(WRONG_LAYOUT, |done| answers::number(done))
+        == u32::from(replay::byte_at(entry, 38))
         && replay::sum_bytes(0, store) == u64::from(replay::u32_at(entry, 43))
         && replay::sum_bytes(0, &record) == u64::from(replay::u32_at(entry, 39))
 }

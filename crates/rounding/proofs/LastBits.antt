@@ -7,6 +7,7 @@ use mathlib.Core.Logic.{◌⊎◌, inl, inr}
 use lib.Dec.{T, ltb}
 use lib.IntN.{ℤ}
 use lib.Pow.{pow_pos, pow_mono}
+use Rattle.std.proofs.lemmas.Bool.{true≢false}
 use Rattle.std.proofs.Math.Nat.{add-mul-mod_self_right, mod-eq_of_lt, mod_self, mul_assoc}
 use Rattle.std.proofs.Common.{pow-add}
 use lib.Ieee.{Float, nan, inf, fin, up, down, lt, add, sub, size, to_unsigned, to_bits, is_nan, binary32}
@@ -16,7 +17,6 @@ use lib.Ieee.Back.{round_whole}
 use native.Mathlib.Nat.{div-lt_iff_lt-mul, mul-one, mul_right_comm, mul-div_cancel, mul-le-mul_right, mul-lt-mul_of_pos_right, lt_of_lt_of_le, eq-or-lt_of_le, div-mul-le_self, lt-suc_self}
 use native.Mathlib.Omega.{arith}
 use borrow.Author.Tests.{lt-ltb, le-ltb}
-use Rattle.lists.proofs.Choice.{true_false}
 use lib.Ieee.Casts.{to_unsigned-lt}
 use Rattle.rounding.specs.Rounding.{Part}
 use Rattle.rounding.proofs.Near.{big, sized, less, above_is, Summed, summed, summed_to}
@@ -34,7 +34,7 @@ pub bits : (x : Float) (n : ℕ) → HasValue x false n 1 → 2 ^ 23 ≤ n → n
 unfolding to_bits
 bits nan n h lo hi = absurd h
 bits (inf s) n h lo hi = absurd h
-bits (fin true m e) n h lo hi = absurd (true_false h.0)
+bits (fin true m e) n h lo hi = absurd (true≢false h.0)
 bits (fin false m e) n h lo hi =
     bits_at n (whole_bits n lo hi) (m * up e * 2 ^ 149 / down e)
     (ap (λ (z : ℕ). z * 2 ^ 149 / down e) (sym (mul-one (m * up e)) ∙ h.1) ∙ ap (λ (z : ℕ). z / down e) (mul_right_comm n (down e) (2 ^ 149)) ∙ mul-div_cancel (n * 2 ^ 149) (down_pos e))

@@ -1,4 +1,5 @@
 -- y + 2 ^ 23 - 2 ^ 23 for a y from 0 up to 2 ^ 23: the sum has no place for a fraction, so this is y rounded to a whole number. Assumes nothing.
+use Rattle.std.proofs.lemmas.Bool.{true≢false}
 use Rattle.std.proofs.Common.{◌≡◌, ℕ, suc, ◌+◌, ◌-◌, ◌*◌, ◌/◌, ◌%◌, ◌^◌, ◌<◌, ◌≤◌, Bool, true, false, ltb, ℤ, sym, refl, ap, ◌∙◌, subst, le_trans, le_of_eq, lt_of_lt_of_le, lt_of_le_of_lt, mul-le-mul_right, zero-lt-suc, mul_assoc, mul_comm, div-lt_iff_lt-mul, add-mul, add_comm, le_antisymm, mul-lt-mul_of_pos_right, mul-pos, lt_of_not-le, le-div_iff_mul-le, mul-one, mul_right_comm, not-le_of_lt, div-one, arith, lit<, pow_pos, pow_mono, ltb-false, ltb-true, le-ltb, lt-ltb}
 use Prim.Native.Nat.{compare}
 use lib.Ieee.{Float, nan, inf, fin, up, down, lt, neg, add, sub, sum, size, nearest, round, binary32}
@@ -9,7 +10,6 @@ use lib.Ieee.Nearest.{closest, closest_same, nearest-ge}
 use lib.Ieee.Order.{drop}
 use lib.Ieee.Scale.{grid, overflow, round_val, round_same}
 use native.Mathlib.Nat.{eq_of_mul-eq-mul_right, add-mul-div_right, mod-one}
-use Rattle.lists.proofs.Choice.{true_false}
 use Rattle.floats.proofs.Cut.{two_to}
 
 abbrev pub big : Float
@@ -63,10 +63,10 @@ pub less : (x y : Float) (n k : ℕ) → HasValue x false n 1 → HasValue y fal
 unfolding sub add neg sum
 less nan y n k h g l = absurd h
 less (inf s) y n k h g l = absurd h
-less (fin true m e) y n k h g l = absurd (true_false h.0)
+less (fin true m e) y n k h g l = absurd (true≢false h.0)
 less (fin false m e) nan n k h g l = absurd g
 less (fin false m e) (inf s) n k h g l = absurd g
-less (fin false m e) (fin true p d) n k h g l = absurd (true_false g.0)
+less (fin false m e) (fin true p d) n k h g l = absurd (true≢false g.0)
 less (fin false m e) (fin false p d) n k h g l =
     let A = m * up e * down d in
     let B = p * up d * down e in
@@ -81,10 +81,10 @@ pub more : (x y : Float) (n k : ℕ) → HasValue x false n 1 → HasValue y fal
 unfolding add sum
 more nan y n k h g = absurd h
 more (inf s) y n k h g = absurd h
-more (fin true m e) y n k h g = absurd (true_false h.0)
+more (fin true m e) y n k h g = absurd (true≢false h.0)
 more (fin false m e) nan n k h g = absurd g
 more (fin false m e) (inf s) n k h g = absurd g
-more (fin false m e) (fin true p d) n k h g = absurd (true_false g.0)
+more (fin false m e) (fin true p d) n k h g = absurd (true≢false g.0)
 more (fin false m e) (fin false p d) n k h g =
     let A = m * up e * down d in
     let B = p * up d * down e in
@@ -110,14 +110,14 @@ module _ (m : ℕ) (e : ℤ) (n : ℕ) where
   unfolding lt
   above_is nan h = absurd h
   above_is (inf s) h = absurd h
-  above_is (fin true k d) h = absurd (true_false h.0)
+  above_is (fin true k d) h = absurd (true≢false h.0)
   above_is (fin false k d) h = ap (ltb (m * up e * down d)) (side k d h) ∙ scaled (m * up e) (n * down e) (down d) (down_pos d)
 
   pub below_is : (v : Float) → HasValue v false n 1 → lt v (fin false m e) ≡ ltb (n * down e) (m * up e)
   unfolding lt
   below_is nan h = absurd h
   below_is (inf s) h = absurd h
-  below_is (fin true k d) h = absurd (true_false h.0)
+  below_is (fin true k d) h = absurd (true≢false h.0)
   below_is (fin false k d) h = ap (λ (z : ℕ). ltb z (m * up e * down d)) (side k d h) ∙ scaled (n * down e) (m * up e) (down d) (down_pos d)
 
 -- ---- the sum of y and 2 ^ 23

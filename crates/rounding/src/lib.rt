@@ -5,16 +5,35 @@ ghost use Rattle.std.specs.Prelude.{◌≡◌, ◌^◌, ◌<◌, ◌≤◌};
 ghost use Rattle.std.specs.Float.Ieee as Ieee;
 ghost use Rattle.rounding.specs.Rounding.{floor_of, ceil_of, round_of, Part};
 
+// From 2^23 on an f32 has no place for a fraction, so a sum with it is rounded to a whole number.
+// Kept: with std's floor a float takes 4.0 ns where this takes 2.6 and the Rust's 3.3: it would miss the bar of 1.0. (4d)
 pub fn floor(x: f32) -> f32
     ensures { result ≡ floor_of x }
 {
-    x.floor()
+    if x > 0.0 {
+        if x < 8388608.0 {
+            let near = (x + 8388608.0) - 8388608.0;
+            let past = if near > x { 1.0 } else { 0.0 };
+            return near - past;
+        }
+        return x;
+    }
+    if x < 0.0 {
+        let y = -x;
+        if y < 8388608.0 {
+            let near = (y + 8388608.0) - 8388608.0;
+            let short = if near < y { 1.0 } else { 0.0 };
+            return -(near + short);
+        }
+    }
+    x
 }
 
+// Kept: one line by floor, as plain as x.ceil() and with floor's speed. (4d)
 pub fn ceil(x: f32) -> f32
     ensures { result ≡ ceil_of x }
 {
-    x.ceil()
+    -floor(-x)
 }
 
 pub fn round(x: f32) -> f32

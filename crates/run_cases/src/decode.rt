@@ -2,37 +2,35 @@
 use crate::lines;
 
 // An image of alphas.
-fn plain(rt: &impl Print, width: u32, height: u32) {
+fn plain(rt: &impl Print) {
     let s = [0u8; 1024];
     let mut out = [0u8; 4096];
-    let done = texels::decode_to_rgba(&s, width, height, 0x1906, 0x1401, &mut out);
-    lines::told(rt, "plain", width, height, answers::number(done));
+    for (width, height) in [(1024, 1), (1, 1024), (1025, 1), (1, 1025)] {
+        let done = texels::decode_to_rgba(&s, width, height, 0x1906, 0x1401, &mut out);
+        lines::told(rt, "plain", width, height, answers::number(done));
+    }
 }
 
 // An image of GL_PALETTE8_RGB8_OES.
-fn paletted(rt: &impl Print, width: u32, height: u32) {
+fn paletted(rt: &impl Print) {
     let s = [0u8; 1792];
     let mut out = [0u8; 4096];
-    let done = compressed::decode_compressed_to_rgba(&s, width, height, 0x8B95, &mut out);
-    lines::told(rt, "compressed", width, height, answers::number(done));
+    for (width, height) in [(1024, 1), (1, 1024), (1025, 1), (1, 1025), (1025, 0)] {
+        let done = compressed::decode_compressed_to_rgba(&s, width, height, 0x8B95, &mut out);
+        lines::told(rt, "compressed", width, height, answers::number(done));
+    }
 }
 
-fn size(rt: &impl Print, width: u32, height: u32) {
-    let sized = compressed::compressed_image_size(0x8B95, width, height);
-    lines::told(rt, "size", width, height, answers::number(sized));
+fn size(rt: &impl Print) {
+    for (width, height) in [(1024, 1024), (1025, 1024), (1024, 1025)] {
+        let sized = compressed::compressed_image_size(0x8B95, width, height);
+        lines::told(rt, "size", width, height, answers::number(sized));
+    }
 }
 
+// Kept: its own cases; the others have the name alone (7b)
 pub fn run(rt: &impl Print) {
-    plain(rt, 1024, 1);
-    plain(rt, 1, 1024);
-    plain(rt, 1025, 1);
-    plain(rt, 1, 1025);
-    paletted(rt, 1024, 1);
-    paletted(rt, 1, 1024);
-    paletted(rt, 1025, 1);
-    paletted(rt, 1, 1025);
-    paletted(rt, 1025, 0);
-    size(rt, 1024, 1024);
-    size(rt, 1025, 1024);
-    size(rt, 1024, 1025);
+    plain(rt);
+    paletted(rt);
+    size(rt);
 }

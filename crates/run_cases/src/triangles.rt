@@ -1,19 +1,26 @@
 // The worked runs of document 01: triangles that share an edge, a fan with a corner that cannot be divided, and the largest sides.
+ghost use Rattle.std.specs.Prelude.{◌≤◌};
+
 use crate::lines;
 use answers::Refusal;
 use levels::{MipLevel, Texture};
 use settings::{PipelineState, Rgba, TexEnvMode, TextureStage, Viewport};
-use vertices::Vertex;
+use vertices::{Triangle, Vertex};
 
-fn corner(x: f32, y: f32, z: f32, w: f32) -> Vertex {
-    let pos = [x, y, z, w];
-    let color = [1.0, 1.0, 1.0, 1.0];
-    let texcoord = [0.0f32; 8];
+// A white corner of depth 0.
+fn corner(x: f32, y: f32, w: f32) -> Vertex {
     Vertex {
-        pos,
-        color,
-        texcoord,
-        fog_depth: 0.0,
+        pos: [x, y, 0.0, w],
+        ..Vertex::new()
+    }
+}
+
+// The corners that all but the fan use: lower left, lower right, upper left.
+fn lower_left_half() -> Triangle {
+    Triangle {
+        a: corner(-1.0, -1.0, 1.0),
+        b: corner(1.0, -1.0, 1.0),
+        c: corner(-1.0, 1.0, 1.0),
     }
 }
 
@@ -21,25 +28,19 @@ fn stage() -> TextureStage {
     TextureStage {
         unit: 0,
         env: TexEnvMode::Replace,
-        env_color: Rgba {
-            r: 0.0,
-            g: 0.0,
-            b: 0.0,
-            a: 0.0,
-        },
+        env_color: Rgba::default(),
     }
 }
 
 // The default comparison is Less.
 fn settings(width: i32, height: i32, depth_test: bool) -> PipelineState {
     let mut s = PipelineState::new();
-    let viewport = Viewport {
+    s.viewport = Viewport {
         x: 0,
         y: 0,
         width,
         height,
     };
-    s.viewport = viewport;
     s.depth_test = depth_test;
     s
 }
@@ -51,6 +52,8 @@ fn tell(rt: &impl Print, name: &str, answer: Result<usize, Refusal>) {
     }
 }
 
+// A draw of which no stage is in use.
+// Kept: draw::draw_triangle's own parameters, which document 01's call takes apart (5c, 6c)
 fn plain(
     rt: &impl Print,
     name: &str,
@@ -59,17 +62,13 @@ fn plain(
     width: u32,
     height: u32,
     s: PipelineState,
-    a: Vertex,
-    b: Vertex,
-    c: Vertex,
+    t: Triangle,
 ) {
     let store = [0u8; 4];
-    let none = Texture::new();
-    let units = [none; 4];
-    let unused = stage();
-    let stages = [unused; 4];
+    let units = [Texture::new(); 4];
+    let stages = [stage(); 4];
     let answer = draw::draw_triangle(
-        colors, depths, width, height, &store, units, s, stages, 0, a, b, c,
+        colors, depths, width, height, &store, units, s, stages, 0, t,
     );
     tell(rt, name, answer);
 }
@@ -88,9 +87,7 @@ fn two_triangles(rt: &impl Print, depth_test: bool) {
         2,
         2,
         s,
-        corner(-1.0, -1.0, 0.0, 1.0),
-        corner(1.0, -1.0, 0.0, 1.0),
-        corner(-1.0, 1.0, 0.0, 1.0),
+        lower_left_half(),
     );
     lines::says(rt, "depth 0.5 at the lower left pixel", depths[2] == 0.5);
     plain(
@@ -101,9 +98,11 @@ fn two_triangles(rt: &impl Print, depth_test: bool) {
         2,
         2,
         s,
-        corner(1.0, -1.0, 0.0, 1.0),
-        corner(1.0, 1.0, 0.0, 1.0),
-        corner(-1.0, 1.0, 0.0, 1.0),
+        Triangle {
+            a: corner(1.0, -1.0, 1.0),
+            b: corner(1.0, 1.0, 1.0),
+            c: corner(-1.0, 1.0, 1.0),
+        },
     );
 }
 
@@ -118,43 +117,29 @@ fn undivided_corner(rt: &impl Print) {
         8,
         8,
         settings(8, 8, false),
-        corner(-1.0, -1.0, 0.0, 1.0),
-        corner(1.0, -1.0, 0.0, 1.0),
-        corner(0.0, 1.0, 0.0, 0.0),
+        Triangle {
+            a: corner(-1.0, -1.0, 1.0),
+            b: corner(1.0, -1.0, 1.0),
+            c: corner(0.0, 1.0, 0.0),
+        },
     );
 }
 
-fn wide_target(rt: &impl Print) {
-    let mut colors = [0u8; 16384];
-    let mut depths = [0.0f32; 4096];
+// A target of one row with as many colours and depths as its sides ask for. The largest width of a viewport is 4,096.
+fn wide_target<const SIDE: usize, const BYTES: usize>(rt: &impl Print, name: &str)
+    requires { (SIDE ≤ 4097) × (BYTES ≤ 16388) }
+{
+    let mut colors = [0u8; BYTES];
+    let mut depths = [0.0f32; SIDE];
     plain(
         rt,
-        "target side 4096",
+        name,
         &mut colors,
         &mut depths,
-        4096,
+        SIDE as u32,
         1,
         settings(4096, 1, false),
-        corner(-1.0, -1.0, 0.0, 1.0),
-        corner(1.0, -1.0, 0.0, 1.0),
-        corner(-1.0, 1.0, 0.0, 1.0),
-    );
-}
-
-fn wider_target(rt: &impl Print) {
-    let mut colors = [0u8; 16388];
-    let mut depths = [0.0f32; 4097];
-    plain(
-        rt,
-        "target side 4097",
-        &mut colors,
-        &mut depths,
-        4097,
-        1,
-        settings(4096, 1, false),
-        corner(-1.0, -1.0, 0.0, 1.0),
-        corner(1.0, -1.0, 0.0, 1.0),
-        corner(-1.0, 1.0, 0.0, 1.0),
+        lower_left_half(),
     );
 }
 
@@ -162,17 +147,14 @@ fn textured(rt: &impl Print, name: &str, store: &[u8], side: u32) {
     let mut colors = [0u8; 16];
     let mut depths = [0.0f32; 4];
     let mut x = Texture::new();
-    let mut levels = x.levels;
-    levels[0] = MipLevel {
+    x.levels[0] = MipLevel {
         present: true,
         place: 0,
         width: side,
         height: 1,
     };
-    x.levels = levels;
     let units = [x; 4];
-    let used = stage();
-    let stages = [used; 4];
+    let stages = [stage(); 4];
     let answer = draw::draw_triangle(
         &mut colors,
         &mut depths,
@@ -183,9 +165,7 @@ fn textured(rt: &impl Print, name: &str, store: &[u8], side: u32) {
         settings(2, 2, false),
         stages,
         1,
-        corner(-1.0, -1.0, 0.0, 1.0),
-        corner(1.0, -1.0, 0.0, 1.0),
-        corner(-1.0, 1.0, 0.0, 1.0),
+        lower_left_half(),
     );
     tell(rt, name, answer);
 }
@@ -196,11 +176,12 @@ fn sides(rt: &impl Print) {
     textured(rt, "texture side 1025", &store, 1025);
 }
 
+// Kept: its own cases; the others have the name alone (7b)
 pub fn run(rt: &impl Print) {
     two_triangles(rt, false);
     two_triangles(rt, true);
     undivided_corner(rt);
-    wide_target(rt);
-    wider_target(rt);
+    wide_target::<4096, 16384>(rt, "target side 4096");
+    wide_target::<4097, 16388>(rt, "target side 4097");
     sides(rt);
 }

@@ -9,6 +9,7 @@ use lib.ListN.{length, get_or}
 use lib.Seq.{get_or-drop}
 use lib.Ieee.{Float}
 use borrow.Author.Tests.{lt-ltb}
+use Rattle.lists.proofs.Choice.{neither}
 use Rattle.levels.specs.declared.MipLevel.{MipLevel}
 use Rattle.levels.specs.declared.Texture.{Texture}
 use Rattle.levels.specs.declared.Wrap.{Wrap}
@@ -72,11 +73,7 @@ no_width x e = rw e
 
 pub no_height : (x : Texture) → (get_or x.levels 0 absent).height ≡ 0 → complete (level_of x 0) ≡ false
 unfolding complete level_of levels_of
-no_height x e = rw e (never (ltb 0 (get_or x.levels 0 absent).width))
-  where
-    never : (b : Bool) → cond b false false ≡ false
-    never true = refl
-    never false = refl
+no_height x e = rw e (neither (ltb 0 (get_or x.levels 0 absent).width))
 
 pub both_sides : (x : Texture) → ((get_or x.levels 0 absent).width ≡ 0 → ⊥) → ((get_or x.levels 0 absent).height ≡ 0 → ⊥) → complete (level_of x 0) ≡ true
 unfolding complete level_of levels_of

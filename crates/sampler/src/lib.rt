@@ -9,53 +9,19 @@ ghost use Rattle.sampler.specs.Addresses.{index_of, filter_addresses, chosen_add
 ghost use Rattle.sampler.specs.Samples.{filter_texel, chosen_texel, first_level, last_level, level_filter, sample_of, outcome_of, sample_call, Image, Readable, nearest_in, linear_in};
 
 use answers::Refusal;
+use coords::Side;
 use detail::LevelTable;
 use levels::{Filter, MipLevel, Texture, Wrap};
 use mipmaps::{Chosen, Coordinates};
 
 // Red, green, blue and alpha.
-#[derive(Clone, Copy)]
+// Kept: Rgba has floats and ColorMask switches in these fields; one type over the three would turn each definition that reads .r into one over a type. (2d)
+#[derive(Clone, Copy, Debug, PartialEq, Eq, Hash)]
 pub struct Texel {
     pub r: u8,
     pub g: u8,
     pub b: u8,
     pub a: u8,
-}
-
-fn texel_at(texels: &[u8], i: usize) -> Texel
-    requires { i + 4 ≤ length texels.now }
-    ensures { result ≡ texel_at texels.now i }
-{
-    Texel {
-        r: texels[i],
-        g: texels[i + 1],
-        b: texels[i + 2],
-        a: texels[i + 3],
-    }
-}
-
-fn index_of(width: u32, height: u32, x: u32, y: u32) -> usize
-    requires { (width ≤ 1024) × (height ≤ 1024) × (x < width) × (y < height) }
-    ensures { (result ≡ index_of width x y) × (result + 4 ≤ height * width * 4) }
-{
-    ((y * width + x) * 4) as usize
-}
-
-fn sample_nearest_level(
-    texels: &[u8],
-    width: u32,
-    height: u32,
-    wrap_s: Wrap,
-    wrap_t: Wrap,
-    s: f32,
-    t: f32,
-) -> Texel
-    requires { Image width height texels.now }
-    ensures { result ≡ nearest_in texels.now width height wrap_s wrap_t s t }
-{
-    let x = coords::wrap_coord(s, width, wrap_s);
-    let y = coords::wrap_coord(t, height, wrap_t);
-    texel_at(texels, index_of(width, height, x, y))
 }
 
 // The last step rounds half away from zero.
@@ -78,26 +44,56 @@ fn linear_texel(wx: f32, wy: f32, c00: Texel, c10: Texel, c01: Texel, c11: Texel
     }
 }
 
-fn sample_linear_level(
-    texels: &[u8],
-    width: u32,
-    height: u32,
-    wrap_s: Wrap,
-    wrap_t: Wrap,
-    s: f32,
-    t: f32,
-) -> Texel
-    requires { Image width height texels.now }
-    ensures { result ≡ linear_in texels.now width height wrap_s wrap_t s t }
-{
-    let axes = coords::linear_axes(s, t, width, height, wrap_s, wrap_t);
-    let x = axes.x;
-    let y = axes.y;
-    let c00 = texel_at(texels, index_of(width, height, x.first, y.first));
-    let c10 = texel_at(texels, index_of(width, height, x.second, y.first));
-    let c01 = texel_at(texels, index_of(width, height, x.first, y.second));
-    let c11 = texel_at(texels, index_of(width, height, x.second, y.second));
-    linear_texel(x.weight, y.weight, c00, c10, c01, c11)
+// A level's texels, and its sides along s and t.
+#[derive(Clone, Copy, Debug, PartialEq)]
+struct LevelTexels<'a> {
+    texels: &'a [u8],
+    x: Side,
+    y: Side,
+    ghost image: { Image x.size y.size texels.now },
+}
+
+impl LevelTexels<'_> {
+    // Where texel x, y begins.
+    fn index(&self, x: u32, y: u32) -> usize
+        requires { (x < self.now.x.size) × (y < self.now.y.size) }
+        ensures { (result ≡ index_of self.now.x.size x y) × (result + 4 ≤ length self.now.texels.now) }
+    {
+        ((y * self.x.size + x) * 4) as usize
+    }
+
+    #[tactic(auto, unfolding(crate::specs::Texels::texel_at))]
+    fn texel(&self, x: u32, y: u32) -> Texel
+        requires { (x < self.now.x.size) × (y < self.now.y.size) }
+        ensures { result ≡ texel_at self.now.texels.now (index_of self.now.x.size x y) }
+    {
+        let i = self.index(x, y);
+        let texels = self.texels;
+        Texel {
+            r: texels[i],
+            g: texels[i + 1],
+            b: texels[i + 2],
+            a: texels[i + 3],
+        }
+    }
+
+    fn nearest(&self, s: f32, t: f32) -> Texel
+        ensures { result ≡ nearest_in self.now.texels.now self.now.x.size self.now.y.size self.now.x.wrap self.now.y.wrap s t }
+    {
+        self.texel(self.x.coord(s), self.y.coord(t))
+    }
+
+    fn linear(&self, s: f32, t: f32) -> Texel
+        ensures { result ≡ linear_in self.now.texels.now self.now.x.size self.now.y.size self.now.x.wrap self.now.y.wrap s t }
+    {
+        let x = self.x.axis(s);
+        let y = self.y.axis(t);
+        let c00 = self.texel(x.first, y.first);
+        let c10 = self.texel(x.second, y.first);
+        let c01 = self.texel(x.first, y.second);
+        let c11 = self.texel(x.second, y.second);
+        linear_texel(x.weight, y.weight, c00, c10, c01, c11)
+    }
 }
 
 // A level's texels are the part of the store that holds it.
@@ -113,10 +109,20 @@ fn sample_filter(
     requires { (Fits (length store.now) m) × (0 < m.width) × (0 < m.height) }
     ensures { result ≡ filter_texel filter m s t (bytes_at store.now (filter_addresses filter m wrap_s wrap_t s t)) }
 {
-    let texels = levels::level_texels(store, m);
+    let level = LevelTexels {
+        texels: levels::level_texels(store, m),
+        x: Side {
+            size: m.width,
+            wrap: wrap_s,
+        },
+        y: Side {
+            size: m.height,
+            wrap: wrap_t,
+        },
+    };
     match filter {
-        Filter::Nearest => sample_nearest_level(texels, m.width, m.height, wrap_s, wrap_t, s, t),
-        Filter::Linear => sample_linear_level(texels, m.width, m.height, wrap_s, wrap_t, s, t),
+        Filter::Nearest => level.nearest(s, t),
+        Filter::Linear => level.linear(s, t),
     }
 }
 
@@ -140,29 +146,14 @@ fn mix_texels(part: u32, a: Texel, b: Texel) -> Texel
     }
 }
 
-fn first_level(chosen: Chosen) -> usize
-    ensures { result ≡ first_level chosen }
-{
-    match chosen {
-        Chosen::One { level, .. } | Chosen::Two { level, .. } => level,
-    }
-}
-
-fn last_level(chosen: Chosen) -> usize
+// The levels that a sample reads, from the first to the last, and by which filter.
+fn span(chosen: Chosen) -> (usize, usize, Filter)
     requires { Within 10 chosen }
-    ensures { result ≡ last_level chosen }
+    ensures { (result.0 ≡ first_level chosen) × (result.1 ≡ last_level chosen) × (result.2 ≡ level_filter chosen) }
 {
     match chosen {
-        Chosen::One { level, .. } => level,
-        Chosen::Two { level, .. } => level + 1,
-    }
-}
-
-fn level_filter(chosen: Chosen) -> Filter
-    ensures { result ≡ level_filter chosen }
-{
-    match chosen {
-        Chosen::One { filter, .. } | Chosen::Two { filter, .. } => filter,
+        Chosen::One { level, filter } => (level, level, filter),
+        Chosen::Two { level, filter, .. } => (level, level + 1, filter),
     }
 }
 
@@ -172,13 +163,12 @@ fn sample_chosen(store: &[u8], texture: &Texture, chosen: Chosen, s: f32, t: f32
     requires chosen_within { Within texture.now.max_mipmap_level chosen }
     ensures { result ≡ chosen_texel texture.now chosen s t (bytes_at store.now (chosen_addresses texture.now chosen s t)) }
 {
-    let filter = level_filter(chosen);
+    let (first, last, filter) = span(chosen);
     let wrap_s = texture.wrap_s;
     let wrap_t = texture.wrap_t;
-    let first = first_level(chosen);
-    let last = last_level(chosen);
     let mut lower = white_texel();
     let mut upper = white_texel();
+    // Kept: over `&texture.levels[first..last + 1]` the goals sample_filter-upper-requires, loop-m-preserved and returns-in-Two stayed open. (3c)
     for k in first..last + 1 {
         lower = upper;
         upper = sample_filter(store, texture.levels[k], wrap_s, wrap_t, filter, s, t);
@@ -189,6 +179,7 @@ fn sample_chosen(store: &[u8], texture: &Texture, chosen: Chosen, s: f32, t: f32
     }
 }
 
+#[tactic(auto, unfolding(crate::specs::Texels::white))]
 fn white_texel() -> Texel
     ensures { result ≡ white }
 {
@@ -201,12 +192,14 @@ fn white_texel() -> Texel
 }
 
 // A sample of a record that is known to be valid, with the table lent: what a draw does at each pixel.
+// Kept: stages lends these from its own struct, whose fact is of four records; a struct of the three would be made anew at each pixel. (5c)
 pub fn sample_with_gradients(
     store: &[u8],
     table: &LevelTable,
     texture: &Texture,
     p: Coordinates,
 ) -> Texel
+    // Kept: a struct of these, with the fact, would be made anew at each pixel. (5a)
     requires { valid_of (length store.now) texture.now ≡ true }
     ensures { result ≡ sample_of store.now texture.now p }
 {

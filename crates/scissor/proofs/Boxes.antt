@@ -1,4 +1,5 @@
 -- The box cut to the target holds exactly the pixels of the target that lie in the scissor box. Assumes nothing.
+use Rattle.std.proofs.lemmas.Bool.{false≢true, and_from, and_parts}
 use Rattle.std.specs.Prelude.{Option, Some, None}
 use Prim.Native.Nat.{ℕ, ◌+◌, ◌-◌, ◌*◌, ◌≤◌, ◌<◌, min}
 use mathlib.Core.Path.{◌≡◌, refl, sym, ◌∙◌}
@@ -9,7 +10,6 @@ use lib.Dec.{leb, ltb, leb-zero}
 use lib.IntN.{ℤ, pos, negsuc, ◌+ℤ◌}
 use lib.Signed.{le_z, lt_z}
 use borrow.Author.Tests.{leb-true, ltb-true, le-leb, lt-ltb, le-ltb}
-use Rattle.lists.proofs.Choice.{true_false}
 use Rattle.scissor.specs.Scissor.{within, in_box, from_zero, box_of, cut_of, bounds_of, in_bounds}
 use Rattle.scissor.specs.declared.PixelBox.{PixelBox}
 use Rattle.settings.specs.declared.ScissorBox.{ScissorBox}
@@ -20,22 +20,15 @@ same_truth true b f g = sym (f refl)
 same_truth false true f g = g refl
 same_truth false false f g = refl
 
-pub both : {a b : Bool} → a ≡ true → b ≡ true → (a && b) ≡ true
-both e f = rw (e, f)
-
-pub split : (a b : Bool) → (a && b) ≡ true → (a ≡ true) × (b ≡ true)
-split true b e = (refl, e)
-split false b e = absurd (true_false (sym e))
-
 -- an interval of naturals, its end left out
 abbrev pub span : ℕ → ℕ → ℕ → Bool
 span a e k = leb a k && ltb k e
 
 pub in_span : (a e k : ℕ) → span a e k ≡ true → (a ≤ k) × (k < e)
-in_span a e k h = (leb-true a k (split (leb a k) (ltb k e) h).0, ltb-true k e (split (leb a k) (ltb k e) h).1)
+in_span a e k h = (leb-true a k (and_parts (leb a k) (ltb k e) h).0, ltb-true k e (and_parts (leb a k) (ltb k e) h).1)
 
 pub to_span : (a e k : ℕ) → a ≤ k → k < e → span a e k ≡ true
-to_span a e k h i = both (le-leb a k h) (lt-ltb k e i)
+to_span a e k h i = and_from _ _ (le-leb a k h) (lt-ltb k e i)
 
 -- the scissor's numbers, from 0 on, give the same interval
 low_is : (z : ℤ) (k : ℕ) → le_z z (pos k) ≡ leb (from_zero z) k
@@ -53,14 +46,14 @@ within_is from len k = rw (low_is from k, high_is (from +ℤ len) k)
 module _ (x0 y0 x1 y1 c r : ℕ) where
   none : (t : Bool) → (ltb x0 x1 && ltb y0 y1) ≡ t → (span x0 x1 c && span y0 y1 r) ≡ true → t ≡ true
   none t e h =
-      let p = split (span x0 x1 c) (span y0 y1 r) h in
+      let p = and_parts (span x0 x1 c) (span y0 y1 r) h in
       let x = in_span x0 x1 c p.0 in
       let y = in_span y0 y1 r p.1 in
-      sym e ∙ both (lt-ltb x0 x1 (omega arith)) (lt-ltb y0 y1 (omega arith))
+      sym e ∙ and_from _ _ (lt-ltb x0 x1 (omega arith)) (lt-ltb y0 y1 (omega arith))
 
   pick : (t : Bool) → (ltb x0 x1 && ltb y0 y1) ≡ t → in_bounds (cond t (Some (record { x0 = x0; y0 = y0; x1 = x1; y1 = y1 })) None) c r ≡ (span x0 x1 c && span y0 y1 r)
   pick true e = refl
-  pick false e = same_truth false (span x0 x1 c && span y0 y1 r) (λ h. absurd (true_false (sym h))) (none false e)
+  pick false e = same_truth false (span x0 x1 c && span y0 y1 r) (λ h. absurd (false≢true h)) (none false e)
 
   in_box_of : in_bounds (box_of x0 y0 x1 y1) c r ≡ (span x0 x1 c && span y0 y1 r)
   in_box_of = pick (ltb x0 x1 && ltb y0 y1) refl
@@ -75,22 +68,22 @@ module _ (w h a e b d c r : ℕ) where
 
   cut_box : cut_side ≡ true → box_side ≡ true
   cut_box t =
-      let p = split (span a (min e w) c) (span (h - d) (h - b) r) t in
+      let p = and_parts (span a (min e w) c) (span (h - d) (h - b) r) t in
       let x = in_span a (min e w) c p.0 in
       let y = in_span (h - d) (h - b) r p.1 in
-      both (both (lt-ltb c w (omega arith)) (lt-ltb r h (omega arith)))
-      (both (to_span a e c (omega arith) (omega arith)) (to_span b d (h - 1 - r) (omega arith) (omega arith)))
+      and_from _ _ (and_from _ _ (lt-ltb c w (omega arith)) (lt-ltb r h (omega arith)))
+      (and_from _ _ (to_span a e c (omega arith) (omega arith)) (to_span b d (h - 1 - r) (omega arith) (omega arith)))
 
   box_cut : box_side ≡ true → cut_side ≡ true
   box_cut t =
-      let p = split (ltb c w && ltb r h) (span a e c && span b d (h - 1 - r)) t in
-      let q = split (ltb c w) (ltb r h) p.0 in
-      let s = split (span a e c) (span b d (h - 1 - r)) p.1 in
+      let p = and_parts (ltb c w && ltb r h) (span a e c && span b d (h - 1 - r)) t in
+      let q = and_parts (ltb c w) (ltb r h) p.0 in
+      let s = and_parts (span a e c) (span b d (h - 1 - r)) p.1 in
       let x = in_span a e c s.0 in
       let y = in_span b d (h - 1 - r) s.1 in
       let i : c < w = ltb-true c w q.0 in
       let j : r < h = ltb-true r h q.1 in
-      both (to_span a (min e w) c (omega arith) (omega arith)) (to_span (h - d) (h - b) r (omega arith) (omega arith))
+      and_from _ _ (to_span a (min e w) c (omega arith) (omega arith)) (to_span (h - d) (h - b) r (omega arith) (omega arith))
 
   same_box : cut_side ≡ box_side
   same_box = same_truth cut_side box_side cut_box box_cut
@@ -123,7 +116,7 @@ module _ (w h x0 y0 x1 y1 : ℕ) (i : x1 ≤ w) (j : y1 ≤ h) where
   inside_at : (t : Bool) → (ltb x0 x1 && ltb y0 y1) ≡ t → Inside w h (cond t (Some (record { x0 = x0; y0 = y0; x1 = x1; y1 = y1 })) None)
   inside_at false e = tt
   inside_at true e =
-      let p = split (ltb x0 x1) (ltb y0 y1) e in
+      let p = and_parts (ltb x0 x1) (ltb y0 y1) e in
       let x : x0 < x1 = ltb-true x0 x1 p.0 in
       let y : y0 < y1 = ltb-true y0 y1 p.1 in
       (omega arith, i, omega arith, j)

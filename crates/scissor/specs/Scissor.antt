@@ -1,6 +1,6 @@
 -- Which pixels of a target lie in a scissor box, and the box cut to the target.
 -- Columns count from the left and rows from the top; a scissor's numbers count rows from the bottom.
-use Rattle.std.specs.Prelude.{ℕ, ◌+◌, ◌-◌, ◌/◌, ◌%◌, min, Bool, false, cond, ◌&&◌, leb, ltb, ℤ, pos, negsuc, ◌+ℤ◌, Option, Some, None}
+use Rattle.std.specs.Prelude.{ℕ, ◌-◌, ◌/◌, ◌%◌, min, Bool, false, cond, ◌&&◌, leb, ltb, ℤ, pos, negsuc, ◌+ℤ◌, Option, Some, None}
 use Rattle.std.specs.Int.Signed.{le_z, lt_z}
 use Rattle.scissor.specs.declared.PixelBox.{PixelBox}
 use Rattle.settings.specs.declared.ScissorBox.{ScissorBox}

@@ -50,6 +50,8 @@ fn cut(width: u32, height: u32, b: ScissorBox) -> Option<PixelBox>
     )
 }
 
+// Kept: sides and scissor come apart, the sides from a target and the scissor from a clear's call or a draw's settings; each caller would
+// build a struct for this one call (5c)
 #[tactic(auto, unfolding(crate::specs::Scissor::bounds_of))]
 pub fn scissor_bounds(width: u32, height: u32, scissor: Option<ScissorBox>) -> Option<PixelBox>
     ensures { result ≡ bounds_of width height scissor }
@@ -70,7 +72,7 @@ pub fn scissor_bounds(width: u32, height: u32, scissor: Option<ScissorBox>) -> O
 pub fn number_fits(v: i32) -> bool
     ensures { result ≡ number_fits v }
 {
-    -PipelineState::MAX_WINDOW_NUMBER <= v && v <= PipelineState::MAX_WINDOW_NUMBER
+    (-PipelineState::MAX_WINDOW_NUMBER..=PipelineState::MAX_WINDOW_NUMBER).contains(&v)
 }
 
 #[tactic(auto, unfolding(crate::specs::Check::scissor_fits, crate::specs::Check::numbers_fit))]
@@ -86,6 +88,8 @@ pub fn scissor_fits(scissor: Option<ScissorBox>) -> bool
     }
 }
 
+// Kept: check 1 needs both lengths, and a clear or an export has one of the two slices: a slice, or a struct of both, would ask more of
+// callers (5c, 6b)
 #[tactic(auto, using(std::proofs::lemmas::Bool::Decides::nat_tests), unfolding(crate::specs::Check::target_fits))]
 pub fn target_fits(width: u32, height: u32, colors: usize, depths: usize) -> bool
     ensures { result ≡ target_fits width height colors depths }

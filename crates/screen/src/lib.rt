@@ -26,12 +26,21 @@ pub struct ScreenVertex {
     pub inv_w: f32,
 }
 
+// The corners of a triangle on the screen, in the order of its vertices.
+#[derive(Clone, Copy, Debug, PartialEq)]
+pub struct ScreenTriangle {
+    pub a: ScreenVertex,
+    pub b: ScreenVertex,
+    pub c: ScreenVertex,
+}
+
 fn w_fits(w: f32) -> bool
     ensures { result ≡ w_fits w }
 {
     !(floats::abs(w) < 1.0e-9) && floats::is_finite(w)
 }
 
+// Kept: what it shares with draw_checks' vertices_fit is an && of three: these are floats, those are vertices. (2b)
 #[tactic(auto, unfolding(crate::specs::Screen::ndc_fits))]
 fn ndc_fits(x: f32, y: f32, z: f32) -> bool
     ensures { result ≡ ndc_fits x y z }
@@ -97,6 +106,7 @@ pub fn screen_vertex(view: View, range: DepthRange, vertex: Vertex) -> Option<Sc
         return None;
     }
     let inv_w = 1.0 / w;
+    // Kept: an array of the three would be made to be taken apart again. (3f)
     let x = p[0] * inv_w;
     let y = p[1] * inv_w;
     let z = p[2] * inv_w;
@@ -113,9 +123,10 @@ pub fn screen_vertex(view: View, range: DepthRange, vertex: Vertex) -> Option<Sc
 
 // Twice the triangle's area. Rows count downwards, so a counter-clockwise triangle has a negative one.
 #[tactic(auto, unfolding(crate::specs::Facing::area_of))]
-pub fn signed_area(a: ScreenVertex, b: ScreenVertex, c: ScreenVertex) -> f32
-    ensures { result ≡ area_of a b c }
+pub fn signed_area(t: ScreenTriangle) -> f32
+    ensures { result ≡ area_of t.a t.b t.c }
 {
+    let ScreenTriangle { a, b, c } = t;
     (b.x - a.x) * (c.y - a.y) - (c.x - a.x) * (b.y - a.y)
 }
 

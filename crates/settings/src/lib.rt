@@ -4,6 +4,7 @@
 ghost use Rattle.std.specs.Prelude.{◌≡◌};
 ghost use Rattle.settings.specs.Settings.{read_compare, read_factor, default_state};
 ghost use Rattle.settings.specs.Codes.{mode_of, face_of, fog_of, env_of, compare_code, factor_code, mode_code, face_code, fog_code, env_code};
+ghost use Rattle.settings.specs.Channels.{color_of, channels_of};
 ghost use Rattle.settings.specs.Compare.{test_of};
 ghost use Rattle.settings.specs.Factor.{splat_of, one_minus, saturated_of, resolve_of};
 
@@ -35,6 +36,7 @@ impl TryFrom<u32> for CompareFunc {
 
     ghost try_from_gives = { λ code r. r ≡ read_compare code };
 
+    // Kept: one body for all kinds would search a table of codes and values, and each kind would still write its table out (2c, 7a)
     #[tactic(auto, using(std::proofs::lemmas::Bool::Decides::nat_tests), unfolding(crate::specs::Settings::read_compare))]
     fn try_from(code: u32) -> Result<Self, Refusal> {
         match code {
@@ -46,7 +48,7 @@ impl TryFrom<u32> for CompareFunc {
             GL_NOTEQUAL => Ok(CompareFunc::Notequal),
             GL_GEQUAL => Ok(CompareFunc::Gequal),
             GL_ALWAYS => Ok(CompareFunc::Always),
-            _ => Err(Refusal::Code),
+            _ => Err(Refusal::Code), // No other code is a comparison.
         }
     }
 }
@@ -107,6 +109,7 @@ impl TryFrom<u32> for BlendFactor {
 
     ghost try_from_gives = { λ code r. r ≡ read_factor code };
 
+    // Kept: one body for all kinds would search a table of codes and values, and each kind would still write its table out (2c, 7a)
     #[tactic(auto, using(std::proofs::lemmas::Bool::Decides::nat_tests), unfolding(crate::specs::Settings::read_factor))]
     fn try_from(code: u32) -> Result<Self, Refusal> {
         match code {
@@ -216,6 +219,7 @@ impl TryFrom<u32> for CullMode {
 
     ghost try_from_gives = { λ code r. r ≡ mode_of code };
 
+    // Kept: one body for all kinds would search a table of codes and values, and each kind would still write its table out (2c, 7a)
     #[tactic(auto, using(std::proofs::lemmas::Bool::Decides::nat_tests), unfolding(crate::specs::Codes::mode_of))]
     fn try_from(code: u32) -> Result<Self, Refusal> {
         match code {
@@ -251,6 +255,7 @@ impl TryFrom<u32> for FrontFace {
 
     ghost try_from_gives = { λ code r. r ≡ face_of code };
 
+    // Kept: one body for all kinds would search a table of codes and values, and each kind would still write its table out (2c, 7a)
     #[tactic(auto, using(std::proofs::lemmas::Bool::Decides::nat_tests), unfolding(crate::specs::Codes::face_of))]
     fn try_from(code: u32) -> Result<Self, Refusal> {
         match code {
@@ -288,6 +293,7 @@ impl TryFrom<u32> for TexEnvMode {
 
     ghost try_from_gives = { λ code r. r ≡ env_of code };
 
+    // Kept: one body for all kinds would search a table of codes and values, and each kind would still write its table out (2c, 7a)
     #[tactic(auto, using(std::proofs::lemmas::Bool::Decides::nat_tests), unfolding(crate::specs::Codes::env_of))]
     fn try_from(code: u32) -> Result<Self, Refusal> {
         match code {
@@ -328,6 +334,7 @@ impl TryFrom<u32> for FogMode {
 
     ghost try_from_gives = { λ code r. r ≡ fog_of code };
 
+    // Kept: one body for all kinds would search a table of codes and values, and each kind would still write its table out (2c, 7a)
     #[tactic(auto, using(std::proofs::lemmas::Bool::Decides::nat_tests), unfolding(crate::specs::Codes::fog_of))]
     fn try_from(code: u32) -> Result<Self, Refusal> {
         match code {
@@ -352,7 +359,9 @@ impl From<FogMode> for u32 {
 }
 
 // A colour of the pixel's way: straight, and in 0 to 1 where nothing else is said.
-#[derive(Clone, Copy)]
+// Kept: a colour of floats is blended and a mask of switches is tested, so that no method of the one serves the other; with a generic
+// `Rgba<T>` every contract would name `Rgba<f32>` or `Rgba<bool>` (2d)
+#[derive(Clone, Copy, Debug, Default, PartialEq)]
 pub struct Rgba {
     pub r: f32,
     pub g: f32,
@@ -360,8 +369,25 @@ pub struct Rgba {
     pub a: f32,
 }
 
+impl From<[f32; 4]> for Rgba {
+    ghost from_gives = { λ v c. c ≡ color_of v };
+
+    fn from([r, g, b, a]: [f32; 4]) -> Rgba {
+        Rgba { r, g, b, a }
+    }
+}
+
+impl From<Rgba> for [f32; 4] {
+    ghost from_gives = { λ c v. v ≡ channels_of c };
+
+    fn from(c: Rgba) -> [f32; 4] {
+        [c.r, c.g, c.b, c.a]
+    }
+}
+
 // Which channels a draw writes.
-#[derive(Clone, Copy)]
+// Kept: no method of a colour serves a mask, and `Rgba<bool>` in each contract is no plainer (2d)
+#[derive(Clone, Copy, Debug, PartialEq, Eq, Hash)]
 pub struct ColorMask {
     pub r: bool,
     pub g: bool,
@@ -369,7 +395,8 @@ pub struct ColorMask {
     pub a: bool,
 }
 
-#[derive(Clone, Copy)]
+// Kept: as one type with the scissor's box, a viewport could stand where a scissor is meant, and the other way round (2d)
+#[derive(Clone, Copy, Debug, Default, PartialEq, Eq, Hash)]
 pub struct Viewport {
     pub x: i32,
     pub y: i32,
@@ -377,14 +404,15 @@ pub struct Viewport {
     pub height: i32,
 }
 
-#[derive(Clone, Copy)]
+#[derive(Clone, Copy, Debug, PartialEq)]
 pub struct DepthRange {
     pub near: f32,
     pub far: f32,
 }
 
 // A box with its corner x, y at the bottom left, as OpenGL counts.
-#[derive(Clone, Copy)]
+// Kept: as one type with the viewport, a scissor's box could stand where a viewport is meant, and the other way round (2d)
+#[derive(Clone, Copy, Debug, PartialEq, Eq, Hash)]
 pub struct ScissorBox {
     pub x: i32,
     pub y: i32,
@@ -393,32 +421,37 @@ pub struct ScissorBox {
 }
 
 // One enabled texture unit.
-#[derive(Clone, Copy)]
+#[derive(Clone, Copy, Debug, PartialEq)]
 pub struct TextureStage {
+    // Kept: document 02 has a unit's number here; a stage may name one that check 6 refuses, and two may name the same (6e)
     pub unit: u32,
     pub env: TexEnvMode,
     pub env_color: Rgba,
 }
 
 // All that the fragments of a draw need.
-#[derive(Clone, Copy)]
+#[derive(Clone, Copy, Debug, PartialEq)]
 pub struct PipelineState {
     pub viewport: Viewport,
     pub depth_range: DepthRange,
     // Where a draw may write: the whole target, or a box of it.
     pub scissor: Option<ScissorBox>,
+    // Kept: the C interface hands the values in while the flag is off, and draw_bytes writes them back (1f)
     pub depth_test: bool,
     pub depth_func: CompareFunc,
     pub depth_write: bool,
+    // Kept: the C interface hands the values in while the flag is off, and draw_bytes writes them back (1f)
     pub alpha_test: bool,
     pub alpha_func: CompareFunc,
     pub alpha_ref: f32,
+    // Kept: the C interface hands the values in while the flag is off, and draw_bytes writes them back (1f)
     pub blend: bool,
     pub blend_src: BlendFactor,
     pub blend_dst: BlendFactor,
     pub cull: Option<CullMode>,
     pub front_face: FrontFace,
     pub color_mask: ColorMask,
+    // Kept: the C interface hands the values in while the flag is off, and draw_bytes writes them back (1f)
     pub fog: bool,
     pub fog_mode: FogMode,
     pub fog_color: Rgba,
@@ -436,16 +469,12 @@ impl PipelineState {
 
     pub const MAX_TEXTURE_STAGES: u32 = 4;
 
+    // Kept: probes and programs start from it by this name, and `Default` calls it (4m)
     pub fn new() -> Self
         ensures { result ≡ default_state }
     {
         Self {
-            viewport: Viewport {
-                x: 0,
-                y: 0,
-                width: 0,
-                height: 0,
-            },
+            viewport: Viewport::default(),
             depth_range: DepthRange {
                 near: 0.0,
                 far: 1.0,
@@ -470,16 +499,19 @@ impl PipelineState {
             },
             fog: false,
             fog_mode: FogMode::Exp,
-            fog_color: Rgba {
-                r: 0.0,
-                g: 0.0,
-                b: 0.0,
-                a: 0.0,
-            },
+            fog_color: Rgba::default(),
             fog_start: 0.0,
             fog_end: 1.0,
             fog_density: 1.0,
             smooth_shading: true,
         }
+    }
+}
+
+impl Default for PipelineState {
+    ghost is_default = { λ s. s ≡ default_state };
+
+    fn default() -> Self {
+        Self::new()
     }
 }

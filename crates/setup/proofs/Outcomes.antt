@@ -1,13 +1,17 @@
 -- What follows of a triangle left by clipping: the corners of document 01, and where its pixels lie. Assumes nothing.
+use Rattle.std.proofs.lemmas.Option.{none-some}
+use Rattle.std.proofs.lemmas.Bool.{and_parts}
 use Rattle.std.specs.Prelude.{Option, Some, None}
 use Prim.Native.Nat.{ℕ, ◌<◌, ◌≤◌}
-use mathlib.Core.Path.{◌≡◌, refl, sym}
+use mathlib.Core.Path.{◌≡◌, refl}
 use mathlib.Core.Bool.{Bool, true, false, cond, ◌&&◌}
 use native.Mathlib.Omega.{arith}
 use lib.Dec.{ltb}
 use lib.Ieee.{Float}
 use borrow.Author.Tests.{ltb-true}
-use Rattle.lists.proofs.Choice.{was_true, was_false, true_false}
+use Rattle.std.proofs.lemmas.Bool.{and_parts}
+use Rattle.std.proofs.lemmas.Option.{none-some}
+use Rattle.lists.proofs.Choice.{was_true, was_false}
 use Rattle.settings.specs.declared.DepthRange.{DepthRange}
 use Rattle.settings.specs.declared.FrontFace.{FrontFace}
 use Rattle.vertices.specs.declared.Vertex.{Vertex}
@@ -47,13 +51,6 @@ module _ (view : View) (r : DepthRange) (f : FrontFace) (cull : Option CullMode)
 
 -- ---- the pixels
 
-never : {r : Raster} → None ≡ Some r → ⊥
-never e = let z : ◌≡◌ {A = ℕ} 0 1 = cc in omega arith
-
-and_true : (s t : Bool) → (s && t) ≡ true → (s ≡ true) × (t ≡ true)
-and_true true t e = (refl, e)
-and_true false t e = absurd (true_false (sym e))
-
 -- p lies within q, and has a pixel
 pub record Within (p q : PixelBox) : Type 0 where
   pub x_from : q.x0 ≤ p.x0
@@ -77,9 +74,9 @@ module _ (a b c : ScreenVertex) {r : Raster} where
 
   box_in : (x0 y0 x1 y1 : ℕ) (t : Bool) → (ltb x0 x1 && ltb y0 y1) ≡ t → raster_of a b c (cond t (Some (record { x0 = x0; y0 = y0; x1 = x1; y1 = y1 })) None) ≡ Some r → (x0 < x1) × (y0 < y1) × (record { x0 = x0; y0 = y0; x1 = x1; y1 = y1 } ≡ r.pixels)
   box_in x0 y0 x1 y1 true h e =
-      let k = and_true (ltb x0 x1) (ltb y0 y1) h in
+      let k = and_parts (ltb x0 x1) (ltb y0 y1) h in
       (ltb-true _ _ k.0, ltb-true _ _ k.1, pixels_are e)
-  box_in x0 y0 x1 y1 false h e = absurd (never e)
+  box_in x0 y0 x1 y1 false h e = absurd (none-some _ e)
 
 module _ (f : FrontFace) (cull : Option CullMode) (within : PixelBox) (a b c : ScreenVertex) {r : Raster} where
   -- what a triangle that draws has passed
@@ -87,8 +84,8 @@ module _ (f : FrontFace) (cull : Option CullMode) (within : PixelBox) (a b c : S
       → (area_fits (area_of a b c) ≡ true) × (discard_of cull (front_of f (area_of a b c)) ≡ false) × (raster_of a b c (covered_of a b c within) ≡ Some r)
   unfolding on_screen
   drawn_by e =
-      let h = was_true (area_fits (area_of a b c)) e never in
-      let k = was_false (discard_of cull (front_of f (area_of a b c))) h.1 never in
+      let h = was_true (area_fits (area_of a b c)) e (none-some _) in
+      let k = was_false (discard_of cull (front_of f (area_of a b c))) h.1 (none-some _) in
       (h.0, k.0, k.1)
 
   -- its pixels lie in the box that they are cut to

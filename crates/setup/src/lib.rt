@@ -6,9 +6,9 @@ ghost use Rattle.setup.specs.Box.{least_of, greatest_of, start_of, end_of, cover
 ghost use Rattle.setup.specs.Setup.{setup_of, on_screen};
 
 use scissor::PixelBox;
-use screen::{ScreenVertex, View};
+use screen::{ScreenTriangle, ScreenVertex, View};
 use settings::{CullMode, DepthRange, FrontFace};
-use vertices::Vertex;
+use vertices::Triangle;
 
 #[derive(Clone, Copy, Debug, PartialEq)]
 pub struct Raster {
@@ -19,6 +19,9 @@ pub struct Raster {
     pub pixels: PixelBox,
 }
 
+// Kept: as `[a, b, c].into_iter().fold(f32::INFINITY, floats::min)`, goal `returns` stays open: `search` doesn't follow the calls of a
+// fold, of this and of greatest; and std's f32::min promises either zero. (2b, 2e, 4c)
+// Kept: one coordinate of three corners, for which each of four calls would make a struct or an array. (5c)
 #[tactic(auto, unfolding(crate::specs::Box::least_of))]
 fn least(a: f32, b: f32, c: f32) -> f32
     ensures { result ≡ least_of a b c }
@@ -26,6 +29,7 @@ fn least(a: f32, b: f32, c: f32) -> f32
     floats::min(floats::min(floats::min(f32::INFINITY, a), b), c)
 }
 
+// Kept: as least is, with max. (2b, 4c, 5c)
 #[tactic(auto, unfolding(crate::specs::Box::greatest_of))]
 fn greatest(a: f32, b: f32, c: f32) -> f32
     ensures { result ≡ greatest_of a b c }
@@ -33,6 +37,7 @@ fn greatest(a: f32, b: f32, c: f32) -> f32
     floats::max(floats::max(floats::max(f32::NEG_INFINITY, a), b), c)
 }
 
+// Kept: its twin box_end rounds the other way, adds one and takes the lesser: one function for both would be handed all three. (2e)
 // The first column or row of a box that starts at lo.
 fn box_start(least: f32, lo: u32) -> u32
     ensures { result ≡ start_of least lo }
@@ -49,14 +54,10 @@ fn box_end(greatest: f32, hi: u32) -> u32
     (last.saturating_add(1).max(0) as u32).min(hi)
 }
 
-pub fn covered_box(
-    a: ScreenVertex,
-    b: ScreenVertex,
-    c: ScreenVertex,
-    within: PixelBox,
-) -> Option<PixelBox>
-    ensures { result ≡ covered_of a b c within }
+pub fn covered_box(t: ScreenTriangle, within: PixelBox) -> Option<PixelBox>
+    ensures { result ≡ covered_of t.a t.b t.c within }
 {
+    let ScreenTriangle { a, b, c } = t;
     scissor::box_of(
         box_start(least(a.x, b.x, c.x), within.x0),
         box_start(least(a.y, b.y, c.y), within.y0),
@@ -70,20 +71,19 @@ fn setup_screen(
     front_face: FrontFace,
     cull: Option<CullMode>,
     within: PixelBox,
-    a: ScreenVertex,
-    b: ScreenVertex,
-    c: ScreenVertex,
+    t: ScreenTriangle,
 ) -> Option<Raster>
-    ensures { result ≡ on_screen front_face cull within a b c }
+    ensures { result ≡ on_screen front_face cull within t.a t.b t.c }
 {
-    let area = screen::signed_area(a, b, c);
+    let area = screen::signed_area(t);
     if !screen::area_fits(area) {
         return None;
     }
     if screen::is_discarded(cull, screen::is_front(front_face, area)) {
         return None;
     }
-    let pixels = covered_box(a, b, c, within)?;
+    let pixels = covered_box(t, within)?;
+    let ScreenTriangle { a, b, c } = t;
     Some(Raster {
         a,
         b,
@@ -93,6 +93,7 @@ fn setup_screen(
     })
 }
 
+// Kept: each corner ends with `?` in its own name; over an array there is no `?` for one of them. (3f)
 // A triangle left by clipping, in a viewport above zero, cut to the pixels of a scissor's box.
 #[tactic(auto, unfolding(crate::specs::Setup::setup_of))]
 pub fn setup_triangle(
@@ -101,14 +102,12 @@ pub fn setup_triangle(
     front_face: FrontFace,
     cull: Option<CullMode>,
     within: PixelBox,
-    a: Vertex,
-    b: Vertex,
-    c: Vertex,
+    t: Triangle,
 ) -> Option<Raster>
-    ensures { result ≡ setup_of view range front_face cull within a b c }
+    ensures { result ≡ setup_of view range front_face cull within t.a t.b t.c }
 {
-    let sa = screen::screen_vertex(view, range, a)?;
-    let sb = screen::screen_vertex(view, range, b)?;
-    let sc = screen::screen_vertex(view, range, c)?;
-    setup_screen(front_face, cull, within, sa, sb, sc)
+    let a = screen::screen_vertex(view, range, t.a)?;
+    let b = screen::screen_vertex(view, range, t.b)?;
+    let c = screen::screen_vertex(view, range, t.c)?;
+    setup_screen(front_face, cull, within, ScreenTriangle { a, b, c })
 }

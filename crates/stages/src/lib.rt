@@ -26,8 +26,10 @@ fn texcoords(i: usize, a: [f32; 8], b: [f32; 8], c: [f32; 8]) -> PerCorner
 }
 
 // A unit's coordinates at a pixel, with their gradients.
+// Kept: a struct of triangle, weights and 1/w would be made at each pixel, and taken apart again by each of the four (5c)
 #[tactic(auto, unfolding(crate::specs::Stages::coordinates_of))]
 fn coordinates_at(t: Primitive, w: PerCorner, rec: f32, unit: u32) -> Coordinates
+    // Kept: C hands a stage's unit as a number, of which check 6 refuses one past 3 (5a)
     requires { unit < 4 }
     ensures { result ≡ coordinates_of t w rec unit }
 {
@@ -48,6 +50,7 @@ fn coordinates_at(t: Primitive, w: PerCorner, rec: f32, unit: u32) -> Coordinate
     }
 }
 
+// Kept: an impl of From would want sampler to stand on settings, or settings on sampler, for it alone (4e)
 fn texel_color(x: Texel) -> Rgba
     ensures { result ≡ texel_color x }
 {
@@ -55,6 +58,7 @@ fn texel_color(x: Texel) -> Rgba
 }
 
 // One stage. Where its texture's level 0 is incomplete the colour passes on.
+// Kept: a struct of store, table and record would be made for each stage of each pixel, to be taken apart by the sample (5c)
 fn stage_color(
     store: &[u8],
     table: &LevelTable,
@@ -63,6 +67,7 @@ fn stage_color(
     p: Coordinates,
     frag: Rgba,
 ) -> Rgba
+    // Kept: Stages has it of all its records, and hands on one of them (5a)
     requires valid { valid_of (length store.now) texture.now ≡ true }
     ensures { result ≡ stage_color store.now stage texture.now p frag }
 {
@@ -78,6 +83,7 @@ fn stage_color(
 }
 
 // One stage at a pixel: what a draw with a single stage does there, without the arrays of four.
+// Kept: as coordinates_at (5c)
 pub fn stage_at(
     store: &[u8],
     table: &LevelTable,
@@ -88,6 +94,7 @@ pub fn stage_at(
     rec: f32,
     frag: Rgba,
 ) -> Rgba
+    // Kept: Stages has it of all its stages, and hands on one of them (5a)
     requires valid { (valid_of (length store.now) texture.now ≡ true) × (stage.unit < 4) }
     ensures { result ≡ stage_color store.now stage texture.now (coordinates_of t w rec stage.unit) frag }
 {
@@ -108,6 +115,7 @@ pub struct Stages<'a> {
 
 impl Stages<'_> {
     // A single stage, without the arrays of four.
+    // Kept: as coordinates_at (5c)
     pub fn first(&self, t: Primitive, w: PerCorner, rec: f32, frag: Rgba) -> Rgba
         requires { self.now.count ≡ 1 }
         ensures { result ≡ stages_color self.now.store.now self.now.stages self.now.count self.now.textures.now t w rec frag }
@@ -118,6 +126,7 @@ impl Stages<'_> {
     }
 
     // The colour after the stages.
+    // Kept: as coordinates_at (5c)
     pub fn color(&self, t: Primitive, w: PerCorner, rec: f32, frag: Rgba) -> Rgba
         ensures { result ≡ stages_color self.now.store.now self.now.stages self.now.count self.now.textures.now t w rec frag }
     {

@@ -10,12 +10,12 @@ use Rattle.lists.specs.Lists.{flat}
 use Rattle.lists.proofs.Rows.{length_flat}
 use Rattle.lists.proofs.Cells.{flat_of_cells}
 use Rattle.lists.proofs.Parts.{flat_flat, flat_part, part_of_part}
-use Rattle.texels.specs.declared.Texel.{Texel}
-use Rattle.texels.specs.declared.Texel.TheVariants.{Alpha, Luminance, LuminanceAlpha, Rgb, Rgba, Rgb565, Rgba4444, Rgba5551}
+use Rattle.texels.specs.declared.TexelFormat.{TexelFormat}
+use Rattle.texels.specs.declared.TexelFormat.TheVariants.{Alpha, Luminance, LuminanceAlpha, Rgb, Rgba, Rgb565, Rgba4444, Rgba5551}
 use Rattle.texels.specs.Texels.{texel_at, texel_bytes, nth_texel}
 use Rattle.texels.specs.Image.{image}
 
-pub texel_four : (t : Texel) (s : List ℕ) (at : ℕ) → length (texel_at t s at) ≡ 4
+pub texel_four : (t : TexelFormat) (s : List ℕ) (at : ℕ) → length (texel_at t s at) ≡ 4
 texel_four Alpha s at = refl
 texel_four Luminance s at = refl
 texel_four LuminanceAlpha s at = refl
@@ -25,7 +25,7 @@ texel_four Rgb565 s at = refl
 texel_four Rgba4444 s at = refl
 texel_four Rgba5551 s at = refl
 
-pub nth_four : (t : Texel) (s : List ℕ) (i : ℕ) → length (nth_texel t s i) ≡ 4
+pub nth_four : (t : TexelFormat) (s : List ℕ) (i : ℕ) → length (nth_texel t s i) ≡ 4
 unfolding nth_texel
 nth_four t s i = texel_four t s (i * texel_bytes t)
 

@@ -11,8 +11,8 @@ use Rattle.answers.specs.declared.Refusal.{Refusal}
 use Rattle.answers.specs.Numbers.{refusal_number}
 use Rattle.answers.proofs.Answered.{refused_test, done_test}
 use Rattle.lists.specs.Lists.{flat}
-use Rattle.texels.specs.declared.Texel.{Texel}
-use Rattle.texels.specs.declared.Texel.TheVariants.{Alpha, Luminance, LuminanceAlpha, Rgb, Rgba, Rgb565, Rgba4444, Rgba5551}
+use Rattle.texels.specs.declared.TexelFormat.{TexelFormat}
+use Rattle.texels.specs.declared.TexelFormat.TheVariants.{Alpha, Luminance, LuminanceAlpha, Rgb, Rgba, Rgb565, Rgba4444, Rgba5551}
 use Rattle.std.specs.Prelude.{Option, Some, None, Result}
 use Rattle.std.specs.Result.{IsErrAnd}
 use Rattle.std.proofs.lemmas.Result.{err_from_is_err_and}
@@ -27,7 +27,7 @@ pub passed_on : {T : Type 0} (r : Result T Refusal) (why : Refusal) → IsErrAnd
 passed_on r why h =
     let p = err_from_is_err_and r h in rw (p.1, p.2)
 
-pub some_bytes : (t : Texel) → eqb (texel_bytes t) 0 ≡ false
+pub some_bytes : (t : TexelFormat) → eqb (texel_bytes t) 0 ≡ false
 some_bytes Alpha = refl
 some_bytes Luminance = refl
 some_bytes LuminanceAlpha = refl
@@ -45,7 +45,7 @@ module _ (w h n m : ℕ) where
   unfolding plain_check
   plain_14 = refl
 
-  module _ (t : Texel) where
+  module _ (t : TexelFormat) where
     pub plain_9 : side_above w h ≡ true → 9 ≡ plain_check (Some t) w h n m
     unfolding plain_check
     plain_9 p = no _ (some_bytes t) (yes _ p refl)
@@ -62,13 +62,13 @@ module _ (w h n m : ℕ) where
     unfolding plain_check
     plain_0 p q r = no _ (some_bytes t) (no _ p (no _ (le-ltb n (h * w * texel_bytes t) q) (yes _ (eq-eqb m (h * w * 4) r) refl)))
 
-module _ (f : Option Texel) (w h : ℕ) (s out : List ℕ) where
+module _ (f : Option TexelFormat) (w h : ℕ) (s out : List ℕ) where
   pub plain_unchanged : (why : Refusal) → refusal_number why ≡ plain_check f w h (length s) (length out) → out ≡ plain_left f w h s out
   unfolding plain_left
   plain_unchanged why e = no _ (refused_test why (plain_check f w h (length s) (length out)) e) refl
 
 -- the texels in the order of the data are the image
-pub plain_drawn : (t : Texel) (w h : ℕ) (s out : List ℕ) → 0 ≡ plain_check (Some t) w h (length s) (length out)
+pub plain_drawn : (t : TexelFormat) (w h : ℕ) (s out : List ℕ) → 0 ≡ plain_check (Some t) w h (length s) (length out)
     → flat (h * w) (nth_texel t s) ≡ plain_left (Some t) w h s out
 unfolding plain_left plain_image
 plain_drawn t w h s out e = yes _ (done_test (plain_check (Some t) w h (length s) (length out)) e) (sym (image_numbered (nth_texel t s) w h))

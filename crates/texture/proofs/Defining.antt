@@ -1,6 +1,6 @@
 -- What a define's check says where it passes, and the levels that stay. Assumes nothing.
-use mathlib.Core.Bool.{Bool, true, false, cond}
-use mathlib.Core.Path.{◌≡◌, refl}
+use mathlib.Core.Bool.{Bool, true, false, cond, not}
+use mathlib.Core.Path.{◌≡◌, refl, ◌∙◌}
 use mathlib.Core.List.{List}
 use Prim.Native.Nat.{ℕ, ◌+◌, ◌≤◌, ◌<◌}
 use native.Mathlib.Omega.{arith}
@@ -15,7 +15,7 @@ use Rattle.levels.specs.declared.MipLevel.{MipLevel}
 use Rattle.levels.specs.declared.Texture.{Texture}
 use Rattle.levels.specs.Levels.{absent, level_at, levels_of, size_of, overlaps, fits, valid_of}
 use Rattle.levels.proofs.Valid.{fits_at}
-use Rattle.texture.specs.Define.{stays, stay_at, stay, place_check, record_check, define_check, outcome, settle}
+use Rattle.texture.specs.Define.{stays, stay_at, stay, enterable, place_check, record_check, define_check, outcome, settle}
 
 -- a level that stays is one of the levels, or absent
 stay_fit : (n : ℕ) (m : MipLevel) → fits n m ≡ true → (b : Bool) → fits n (cond b m absent) ≡ true
@@ -28,6 +28,24 @@ unfolding stay stay_at
 stay_fits n l k e =
     get_or_all (fits n) absent (tab 11 (stay_at l k))
     (λ i h. rw (get_or_tab (stay_at l k) 11 i absent (rw (length_tab (stay_at l k) 11) at h)) (stay_fit n (get_or l i absent) (fits_at n l e i) (stays k i)))
+
+-- the numbers that are checked first, and what is left
+module _ (n : ℕ) (t : Texture) (k w h place len : ℕ) where
+  sides_first : {A : Type 0} (p q r : Bool) (x y : A) → cond p x (cond q x (cond r x y)) ≡ cond (cond p false (cond q false (not r))) y x
+  sides_first true q r x y = refl
+  sides_first false true r x y = refl
+  sides_first false false true x y = refl
+  sides_first false false false x y = refl
+
+  first : define_check n t k w h place len ≡ cond (enterable k w h) (record_check n t k (level_at place w h) len) 9
+  unfolding define_check enterable
+  first = sides_first (ltb 1024 w) (ltb 1024 h) (ltb 10 k) 9 (record_check n t k (level_at place w h) len)
+
+  pub sides_pass : enterable k w h ≡ true → define_check n t k w h place len ≡ record_check n t k (level_at place w h) len
+  sides_pass e = first ∙ rw e refl
+
+  pub sides_refuse : enterable k w h ≡ false → define_check n t k w h place len ≡ 9
+  sides_refuse e = first ∙ rw e refl
 
 pub record Sound (n : ℕ) (t : Texture) (k w h place len : ℕ) : Type 0 where
   pub wide : w ≤ 1024

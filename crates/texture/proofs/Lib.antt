@@ -1,3 +1,4 @@
+pub mod Named
 pub mod Defining
 pub mod Patching
 pub mod Written

@@ -10,9 +10,9 @@ use lib.Dec.{leb, eqb}
 use lib.ListN.{length, get_or, drop, length-drop}
 use lib.Seq.{paste, length-paste}
 use borrow.Author.Tests.{leb-true, ltb-true, ltb-false, eqb-true, le-leb}
+use Rattle.std.proofs.lemmas.Bool.{false≢true, true≢false}
 use Rattle.lists.specs.Lists.{iter}
-use Rattle.lists.proofs.Choice.{was_true, was_false, true_false}
-use Rattle.lists.proofs.Paste.{paste_before, paste_inside, paste_after}
+use Rattle.lists.proofs.Choice.{was_true, was_false}
 use Rattle.lists.proofs.Rows.{row_in}
 use Rattle.levels.specs.declared.MipLevel.{MipLevel}
 use Rattle.levels.specs.declared.Texture.{Texture}
@@ -22,30 +22,29 @@ use Rattle.texture.specs.Define.{define_check, define_store, define_record, Outc
 use Rattle.texture.specs.Patch.{patch_check, row_place, patch_row, patch_store, Patched, patched, patch_of, in_rows, patch_writes}
 use Rattle.texture.proofs.Defining.{sound, settle_done, settle_refused}
 use Rattle.texture.proofs.Patching.{patch_sound, patch_done, patch_refused}
-
-false_true : ◌≡◌ {A = Bool} false true → ⊥
-false_true e = true_false (sym e)
+use Rattle.std.proofs.lemmas.List.{places}
 
 -- ---- one run of n bytes at a place
 
 is_in_run : (p n a : ℕ) → in_run p n a ≡ true → (p ≤ a) × (a < p + n)
 is_in_run p n a e =
-    let b = was_true (leb p a) e false_true in
+    let b = was_true (leb p a) e false≢true in
     (leb-true p a b.0, ltb-true a (p + n) b.1)
 
 module _ (d : List ℕ) (p : ℕ) (s : List ℕ) (n : ℕ) (h : p + n ≤ length d) (i : n ≤ length s) (a : ℕ) where
   run_written : in_run p n a ≡ true → get_or (paste d p s n) a 0 ≡ get_or s (a - p) 0
   run_written e =
       let b = is_in_run p n a e in
-      let q : p + (a - p) ≡ a = omega (arith, b.0) in
-      ap (λ (j : ℕ). get_or (paste d p s n) j 0) (sym q) ∙ paste_inside d p s n 0 h i (a - p) (omega (arith, b.0, b.1))
+      grind (arith, places, b)
 
   run_kept : in_run p n a ≡ false → get_or (paste d p s n) a 0 ≡ get_or d a 0
   run_kept e = here (dec_lt a p)
     where
       here : Dec (a < p) → get_or (paste d p s n) a 0 ≡ get_or d a 0
-      here (yes k) = paste_before d p s n 0 h i a k
-      here (no k) = paste_after d p s n 0 h i a (ltb-false a (p + n) (rw (le-leb p a (omega arith)) at e))
+      here (yes k) = grind (arith, places, k)
+      here (no k) =
+          let l : p + n ≤ a = ltb-false a (p + n) (rw (le-leb p a (omega arith)) at e) in
+          grind (arith, places, l)
 
 -- ---- a define
 
@@ -79,7 +78,7 @@ module _ (s : List ℕ) (t : Texture) (k w h place : ℕ) (rgba : List ℕ) wher
       → get_or (define_of s t k w h place rgba).store a 0 ≡ get_or rgba (a - place) 0
   unfolding define_writes define_store
   define_inside a e =
-      let b = was_true (eqb (define_check (length s) t k w h place (length rgba)) 0) e false_true in
+      let b = was_true (eqb (define_check (length s) t k w h place (length rgba)) 0) e false≢true in
       let z = eqb-true (define_check (length s) t k w h place (length rgba)) 0 b.0 in
       ap (λ (o : Outcome). get_or o.store a 0) (define_done z) ∙ run_written s place rgba (length rgba) (room z) (le_refl (length rgba)) a b.1
 
@@ -125,7 +124,7 @@ module _ (m : MipLevel) (x y w h : ℕ) (patch : List ℕ) (p : Placed m x y w h
   unfolding iter in_rows patch_row
   rows_outside s q a zero k e = refl
   rows_outside s q a (suc r) k e =
-      let b = was_false (in_run (row_place m x y r) (w * 4) a) e true_false in
+      let b = was_false (in_run (row_place m x y r) (w * 4) a) e true≢false in
       let l = rows_length s q r (omega arith) in
       run_kept (iter r (patch_row m x y w patch) s) (row_place m x y r) (drop (r * (w * 4)) patch) (w * 4)
       (omega (arith, row_room r (omega arith))) (row_bytes_are r (omega arith)) a b.0
@@ -135,7 +134,7 @@ module _ (m : MipLevel) (x y w h : ℕ) (patch : List ℕ) (p : Placed m x y w h
   rows_alike : (s s' : List ℕ) → m.place + size_of m ≤ length s → m.place + size_of m ≤ length s' → (a r : ℕ) → r ≤ h → in_rows m x y w r a ≡ true
       → get_or (iter r (patch_row m x y w patch) s) a 0 ≡ get_or (iter r (patch_row m x y w patch) s') a 0
   unfolding iter in_rows patch_row
-  rows_alike s s' q q' a zero k e = absurd (false_true e)
+  rows_alike s s' q q' a zero k e = absurd (false≢true e)
   rows_alike s s' q q' a (suc r) k e =
       here (λ f. rows_alike s s' q q' a r (omega arith) f) (in_run (row_place m x y r) (w * 4) a) refl e
     where
@@ -197,7 +196,7 @@ module _ (t : Texture) (k x y w h : ℕ) (patch : List ℕ) where
       → get_or (patch_of s t k x y w h patch).store a 0 ≡ get_or (patch_of s' t k x y w h patch).store a 0
   unfolding patch_writes patch_store
   patch_inside s s' n a e =
-      let b = was_true (eqb (check s) 0) e false_true in
+      let b = was_true (eqb (check s) 0) e false≢true in
       let z = eqb-true (check s) 0 b.0 in
       let z' : check s' ≡ 0 = ap (λ (j : ℕ). patch_check j t k x y w h (length patch)) (sym n) ∙ z in
       ap (λ (o : Patched). get_or o.store a 0) (patch_effect s z)

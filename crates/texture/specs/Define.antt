@@ -1,5 +1,5 @@
 -- define_level: its check, what becomes of the record and of the store, and the call.
-use Rattle.std.specs.Prelude.{Bool, true, false, cond, List, ℕ, ◌+◌, ltb, leb, eqb, length, get_or, set, Result, Ok, Err}
+use Rattle.std.specs.Prelude.{Bool, true, false, cond, not, List, ℕ, ◌+◌, ltb, leb, eqb, length, get_or, set, Result, Ok, Err}
 use Rattle.std.proofs.Math.Seq.{paste}
 use Rattle.lists.specs.Lists.{tab, any}
 use Rattle.answers.specs.declared.Refusal.{Refusal}
@@ -25,6 +25,10 @@ place_check n l k m = cond (ltb n (m.place + size_of m)) 10 (cond (any (overlaps
 -- 01, Define, 8 and 11
 unfoldable pub record_check : ℕ → Texture → ℕ → MipLevel → ℕ → ℕ
 record_check n t k m len = cond (valid_of n t) (cond (eqb len (size_of m)) (place_check n (levels_of t.levels) k m) 11) 8
+
+-- 01, Define, 9: a level's number and sides are among those that there are
+unfoldable pub enterable : ℕ → ℕ → ℕ → Bool
+enterable k w h = cond (ltb 1024 w) false (cond (ltb 1024 h) false (not (ltb 10 k)))
 
 -- 01, Define: store length, record, level, width, height, place and number of bytes to the refusal, or 0
 unfoldable pub define_check : ℕ → Texture → ℕ → ℕ → ℕ → ℕ → ℕ → ℕ

@@ -4,7 +4,10 @@ use Rattle.consts.specs.Codes.{GL_TEXTURE_MAG_FILTER, GL_TEXTURE_MIN_FILTER, GL_
 use Rattle.consts.specs.Codes.{GL_TEXTURE_MIN_LOD_SGIS, GL_TEXTURE_MAX_LOD_SGIS, GL_TEXTURE_BASE_LEVEL_SGIS}
 use Rattle.consts.specs.Codes.{GL_TEXTURE_MAX_LEVEL_SGIS, GL_TEXTURE_LOD_BIAS_EXT}
 use Rattle.answers.specs.declared.Refusal.{Refusal}
+use Rattle.answers.specs.declared.Refusal.TheVariants.{Code}
 use Rattle.answers.specs.Results.{answer_number}
+use Rattle.texture.specs.declared.Parameter.{Parameter}
+use Rattle.texture.specs.declared.Parameter.TheVariants as parameter
 use Rattle.levels.specs.declared.Texture.{Texture}
 use Rattle.levels.specs.declared.MinFilter.{MinFilter}
 use Rattle.levels.specs.declared.Filter.{Filter}
@@ -18,6 +21,14 @@ ignored p =
     (cond (eqb p GL_TEXTURE_MAX_LOD_SGIS) true
     (cond (eqb p GL_TEXTURE_BASE_LEVEL_SGIS) true
     (cond (eqb p GL_TEXTURE_MAX_LEVEL_SGIS) true (eqb p GL_TEXTURE_LOD_BIAS_EXT))))
+
+-- what a parameter's name stands for
+unfoldable pub parameter_of : ℕ → Result Parameter Refusal
+parameter_of p =
+    cond (eqb p GL_TEXTURE_MIN_FILTER) (Ok parameter.MinFilter)
+    (cond (eqb p GL_TEXTURE_MAG_FILTER) (Ok parameter.MagFilter)
+    (cond (eqb p GL_TEXTURE_WRAP_S) (Ok parameter.WrapS)
+    (cond (eqb p GL_TEXTURE_WRAP_T) (Ok parameter.WrapT) (cond (ignored p) (Ok parameter.Ignored) (Err Code)))))
 
 -- 01: set a parameter, 16, unknown
 unfoldable pub set_check : ℕ → ℕ → ℕ

@@ -2,17 +2,17 @@
 // A call that is done gives the record as it leaves it; where one is refused, the caller's own stands.
 #![tactic(auto)]
 
-ghost use Rattle.std.specs.Prelude.{◌≡◌, true, cond, ◌+◌, ◌*◌, ◌≤◌, ◌<◌, length};
+ghost use Rattle.std.specs.Prelude.{◌≡◌, true, false, cond, ◌+◌, ◌*◌, ◌≤◌, ◌<◌, length, MatchResult, IfOk};
 ghost use Rattle.std.proofs.Math.Seq.{paste};
 ghost use Rattle.lists.specs.Lists.{all};
 ghost use Rattle.answers.specs.Results.{answer_number};
-ghost use Rattle.levels.specs.Levels.{absent, fits, size_of, Fits};
-ghost use Rattle.texture.specs.Define.{stays, stay, place_check, record_check, define_check, enter_level, define_record, record_after, outcome, define_of};
-ghost use Rattle.texture.specs.Patch.{rectangle_check, patch_row, patch_store, patched, settle_patch, patch_of};
-ghost use Rattle.texture.specs.Parameters.{ignored, setting, set_of};
+ghost use Rattle.levels.specs.Levels.{absent, level_at, fits, size_of};
+ghost use Rattle.texture.specs.Define.{stays, stay, enterable, place_check, record_check, enter_level, define_record, record_after, outcome, define_of};
+ghost use Rattle.texture.specs.Patch.{rectangle_check, patch_row, patch_store, patched, patch_of};
+ghost use Rattle.texture.specs.Parameters.{parameter_of, setting, set_of};
 
 use answers::Refusal;
-use levels::{Filter, MinFilter, MipLevel, Stored, Texture, Wrap};
+use levels::{Filter, MinFilter, MipLevel, Record, Stored, Texture, Wrap};
 
 #[tactic(auto, using(std::proofs::lemmas::Bool::Decides::nat_tests), unfolding(crate::specs::Define::stays))]
 fn stay_at(m: MipLevel, k: usize, i: usize) -> MipLevel
@@ -26,6 +26,7 @@ fn stay_at(m: MipLevel, k: usize, i: usize) -> MipLevel
 }
 
 // The levels that stay where level k is defined.
+#[tactic(auto, using(lists::proofs::Tables::tab_none))]
 fn staying(mut levels: [MipLevel; 11], k: usize) -> [MipLevel; 11]
     ensures { result ≡ stay levels k }
 {
@@ -35,80 +36,87 @@ fn staying(mut levels: [MipLevel; 11], k: usize) -> [MipLevel; 11]
     levels
 }
 
-fn place_check(levels: [MipLevel; 11], len: usize, k: usize, m: MipLevel) -> Result<(), Refusal>
-    requires { (all (fits len) levels ≡ true) × (m.present ≡ true) × (m.width ≤ 1024) × (m.height ≤ 1024) }
-    ensures { answer_number result ≡ place_check len levels k m }
-{
-    if !levels::does_fit(m, len) {
-        return Err(Refusal::Place);
-    }
-    let others = Stored {
-        levels: staying(levels, k),
-        len,
-    };
-    if others.any_overlap(0, m) {
-        return Err(Refusal::Place);
-    }
-    Ok(())
-}
-
-#[tactic(auto, using(std::proofs::lemmas::Bool::Decides::nat_tests), unfolding(crate::specs::Define::record_check))]
-fn record_check(
-    texture: Texture,
-    len: usize,
+// A level to be entered: which of the eleven, where it is to stand, and sides of at most 1,024.
+#[derive(Clone, Copy, Debug, PartialEq, Eq, Hash)]
+struct Entry {
     k: usize,
     m: MipLevel,
-    bytes: usize,
-) -> Result<(), Refusal>
-    requires { (m.present ≡ true) × (m.width ≤ 1024) × (m.height ≤ 1024) }
-    ensures { answer_number result ≡ record_check len texture k m bytes }
-{
-    if !levels::is_valid(texture, len) {
-        return Err(Refusal::Record);
-    }
-    if bytes != levels::size_of(m) {
-        return Err(Refusal::Bytes);
-    }
-    place_check(levels::kept_levels(texture.levels), len, k, m)
+    ghost known: { k < 11 },
+    ghost small: { (m.present ≡ true) × (m.width ≤ 1024) × (m.height ≤ 1024) },
 }
 
-#[tactic(auto, using(std::proofs::lemmas::Bool::Decides::nat_tests), unfolding(crate::specs::Define::define_check))]
-fn define_check(
-    texture: Texture,
-    len: usize,
-    level: u32,
-    m: MipLevel,
-    bytes: usize,
-) -> Result<(), Refusal>
-    requires { m.present ≡ true }
-    ensures { answer_number result ≡ define_check len texture level m.width m.height m.place bytes }
-{
-    if 1024 < m.width || 1024 < m.height || 10 < level {
-        return Err(Refusal::Side);
+impl Entry {
+    #[tactic(auto, using(std::proofs::lemmas::Bool::Decides::nat_tests), unfolding(crate::specs::Define::enterable))]
+    fn new(k: u32, place: usize, width: u32, height: u32) -> Result<Self, Refusal>
+        ensures { MatchResult result (λ e. (enterable k width height ≡ true) × (e.k ≡ k) × (e.m ≡ level_at place width height)) (λ why. (enterable k width height ≡ false) × (why ≡ Refusal.Side)) }
+    {
+        if 1024 < width || 1024 < height || 10 < k {
+            return Err(Refusal::Side);
+        }
+        Ok(Entry {
+            k: k as usize,
+            m: MipLevel {
+                present: true,
+                place,
+                width,
+                height,
+            },
+        })
     }
-    record_check(texture, len, level as usize, m, bytes)
-}
 
-#[tactic(auto, unfolding(crate::specs::Define::enter_level))]
-fn enter_level(levels: [MipLevel; 11], k: usize, m: MipLevel) -> [MipLevel; 11]
-    requires { k < 11 }
-    ensures { result ≡ enter_level levels k m }
-{
-    let mut next = staying(levels, k);
-    next[k] = m;
-    next
-}
+    // Whether its place in the store is free.
+    fn place_check(self, levels: [MipLevel; 11], store: &[u8]) -> Result<(), Refusal>
+        requires { all (fits (length store.now)) levels ≡ true }
+        ensures { answer_number result ≡ place_check (length store.now) levels self.k self.m }
+    {
+        let len = store.len();
+        if !levels::does_fit(self.m, len) {
+            return Err(Refusal::Place);
+        }
+        let others = Stored {
+            levels: staying(levels, self.k),
+            len,
+        };
+        if others.any_overlap(0, self.m) {
+            return Err(Refusal::Place);
+        }
+        Ok(())
+    }
 
-#[tactic(auto, unfolding(crate::specs::Define::define_record))]
-fn define_record(texture: Texture, k: usize, m: MipLevel) -> Texture
-    requires { k < 11 }
-    ensures { result ≡ define_record texture k m }
-{
-    let levels = enter_level(levels::kept_levels(texture.levels), k, m);
-    Texture {
-        levels,
-        max_mipmap_level: levels::calculate_max_complete_mipmap_level(levels),
-        ..texture
+    // Whether the image may be put into the store and entered in the record.
+    #[tactic(auto, using(std::proofs::lemmas::Bool::Decides::nat_tests), unfolding(crate::specs::Define::record_check))]
+    fn check_against(self, texture: Texture, store: &[u8], rgba: &[u8]) -> Result<(), Refusal>
+        ensures { answer_number result ≡ record_check (length store.now) texture self.k self.m (length rgba.now) }
+    {
+        if !levels::is_valid(texture, store.len()) {
+            return Err(Refusal::Record);
+        }
+        if rgba.len() != levels::size_of(self.m) {
+            return Err(Refusal::Bytes);
+        }
+        self.place_check(levels::kept_levels(texture.levels), store)
+    }
+
+    #[tactic(auto, unfolding(crate::specs::Define::enter_level))]
+    fn put_among(self, levels: [MipLevel; 11]) -> [MipLevel; 11]
+        ensures { result ≡ enter_level levels self.k self.m }
+    {
+        let mut next = staying(levels, self.k);
+        next[self.k] = self.m;
+        next
+    }
+
+    // The record with the level entered.
+    #[tactic(auto, unfolding(crate::specs::Define::define_record))]
+    fn enter(self, texture: Texture) -> Texture
+        ensures { result ≡ define_record texture self.k self.m }
+    {
+        let levels = self.put_among(levels::kept_levels(texture.levels));
+        Texture {
+            levels,
+            max_mipmap_level: levels::calculate_max_complete_mipmap_level(levels),
+            ..texture
+        }
     }
 }
 
@@ -132,19 +140,15 @@ pub fn define_level(
 ) -> Result<Texture, Refusal>
     ensures { outcome (answer_number result) (record_after texture result) store.new ≡ define_of store.old texture level width height place rgba.now }
 {
-    let m = MipLevel {
-        present: true,
-        place,
-        width,
-        height,
-    };
-    define_check(texture, store.len(), level, m, rgba.len())?;
+    let entry = Entry::new(level, place, width, height)?;
+    entry.check_against(texture, store, rgba)?;
     copy_in(store, place, rgba);
-    Ok(define_record(texture, level as usize, m))
+    Ok(entry.enter(texture))
 }
 
 // A rectangle of a level's texels: its corner, and its sides.
-#[derive(Clone, Copy)]
+// Kept: unsigned, where a scissor's and a viewport's numbers are signed; no function takes either. (2d)
+#[derive(Clone, Copy, Debug, PartialEq, Eq, Hash)]
 struct Rectangle {
     x: u32,
     y: u32,
@@ -152,71 +156,62 @@ struct Rectangle {
     height: u32,
 }
 
-#[tactic(auto, using(std::proofs::lemmas::Bool::Decides::nat_tests), unfolding(crate::specs::Patch::rectangle_check))]
-fn rectangle_check(m: MipLevel, area: Rectangle, bytes: usize) -> Result<(), Refusal>
-    requires { (m.width ≤ 1024) × (m.height ≤ 1024) }
-    ensures { answer_number result ≡ rectangle_check m area.x area.y area.width area.height bytes }
-{
-    if (m.width as usize) < (area.x as usize) + (area.width as usize) {
-        return Err(Refusal::Rectangle);
-    }
-    if (m.height as usize) < (area.y as usize) + (area.height as usize) {
-        return Err(Refusal::Rectangle);
-    }
-    if bytes < (area.height as usize) * (area.width as usize) * 4 {
-        return Err(Refusal::Bytes);
-    }
-    Ok(())
-}
-
-// Row r of a patch.
-fn patch_row(store: &mut [u8], m: MipLevel, area: Rectangle, patch: &[u8], r: usize)
-    requires { (area.x + area.width ≤ m.width) × (area.y + r < m.height) × (m.place + size_of m ≤ length store.old) × (r * (area.width * 4) + area.width * 4 ≤ length patch.now) }
-    ensures { store.new ≡ patch_row m area.x area.y area.width patch.now r store.old }
-{
-    let at = m.place + (((area.y as usize) + r) * (m.width as usize) + (area.x as usize)) * 4;
-    let n = (area.width as usize) * 4;
-    let from = r * n;
-    copy_in(store, at, &patch[from..from + n]);
-}
-
-fn patch_rows(store: &mut [u8], m: MipLevel, area: Rectangle, patch: &[u8])
-    requires { (area.x + area.width ≤ m.width) × (area.y + area.height ≤ m.height) × (m.place + size_of m ≤ length store.old) × (area.height * (area.width * 4) ≤ length patch.now) }
-    ensures { store.new ≡ patch_store m area.x area.y area.width area.height patch.now store.old }
-{
-    for r in 0..area.height as usize {
-        patch_row(store, m, area, patch, r);
-    }
-}
-
-// Puts a patch's rows into a rectangle of the texels of a level that lies within the store.
-pub fn patch_in_level(
-    store: &mut [u8],
+// A patch that lies within a level: the level, the rectangle in it, and the texels, row by row.
+#[derive(Clone, Copy, Debug, PartialEq, Eq, Hash)]
+struct Patch<'a> {
     m: MipLevel,
-    xoffset: u32,
-    yoffset: u32,
-    width: u32,
-    height: u32,
-    patch: &[u8],
-) -> Result<(), Refusal>
-    requires { Fits (length store.old) m }
-    ensures { patched (answer_number result) store.new ≡ settle_patch (rectangle_check m xoffset yoffset width height (length patch.now)) store.old (patch_store m xoffset yoffset width height patch.now store.old) }
-{
-    let area = Rectangle {
-        x: xoffset,
-        y: yoffset,
-        width,
-        height,
-    };
-    rectangle_check(m, area, patch.len())?;
-    patch_rows(store, m, area, patch);
-    Ok(())
+    area: Rectangle,
+    texels: &'a [u8],
+    ghost inside: { (area.x + area.width ≤ m.width) × (area.y + area.height ≤ m.height) × (area.height * (area.width * 4) ≤ length texels.now) },
+}
+
+impl<'a> Patch<'a> {
+    #[tactic(auto, using(std::proofs::lemmas::Bool::Decides::nat_tests), unfolding(crate::specs::Patch::rectangle_check))]
+    fn new(m: MipLevel, area: Rectangle, texels: &'a [u8]) -> Result<Self, Refusal>
+        requires { (m.width ≤ 1024) × (m.height ≤ 1024) }
+        ensures number { answer_number result ≡ rectangle_check m area.x area.y area.width area.height (length texels.now) }
+        ensures patch { IfOk result (λ p. (p.m ≡ m) × (p.area ≡ area) × (p.texels.now ≡ texels.now)) }
+    {
+        if (m.width as usize) < (area.x as usize) + (area.width as usize) {
+            return Err(Refusal::Rectangle);
+        }
+        if (m.height as usize) < (area.y as usize) + (area.height as usize) {
+            return Err(Refusal::Rectangle);
+        }
+        if texels.len() < (area.height as usize) * (area.width as usize) * 4 {
+            return Err(Refusal::Bytes);
+        }
+        Ok(Patch { m, area, texels })
+    }
+
+    // Puts row r into the store.
+    fn put_row(self, store: &mut [u8], r: usize)
+        requires { (r < self.area.height) × (self.m.place + size_of self.m ≤ length store.old) }
+        ensures { store.new ≡ patch_row self.entry.m self.entry.area.x self.entry.area.y self.entry.area.width self.entry.texels.now r store.old }
+    {
+        let (m, area) = (self.m, self.area);
+        let at = m.place + (((area.y as usize) + r) * (m.width as usize) + (area.x as usize)) * 4;
+        let n = (area.width as usize) * 4;
+        let from = r * n;
+        copy_in(store, at, &self.texels[from..from + n]);
+    }
+
+    #[tactic(auto, using(lists::proofs::Turns::iter_none))]
+    fn put(self, store: &mut [u8])
+        requires { self.m.place + size_of self.m ≤ length store.old }
+        ensures { store.new ≡ patch_store self.entry.m self.entry.area.x self.entry.area.y self.entry.area.width self.entry.area.height self.entry.texels.now store.old }
+    {
+        // Kept: rows as chunks of the texels would need a test of their own for a width of 0, which has no chunks. (3e)
+        for r in 0..self.area.height as usize {
+            self.put_row(store, r);
+        }
+    }
 }
 
 // Puts a patch's rows into a rectangle of a level's texels.
-pub fn patch_level(
+pub fn patch_level<R: Record>(
     store: &mut [u8],
-    texture: Texture,
+    texture: R,
     level: u32,
     xoffset: u32,
     yoffset: u32,
@@ -224,58 +219,84 @@ pub fn patch_level(
     height: u32,
     patch: &[u8],
 ) -> Result<(), Refusal>
-    ensures { patched (answer_number result) store.new ≡ patch_of store.old texture level xoffset yoffset width height patch.now }
+    ensures { patched (answer_number result) store.new ≡ patch_of store.old (R.texture texture) level xoffset yoffset width height patch.now }
 {
-    if !levels::is_valid(texture, store.len()) {
+    if !texture.is_valid(store.len()) {
         return Err(Refusal::Record);
     }
     if 10 < level {
         return Err(Refusal::Level);
     }
-    let m = levels::image_level(texture.levels, level as usize);
+    let m = texture.image_level(level as usize);
     if !m.present {
         return Err(Refusal::Level);
     }
-    patch_in_level(store, m, xoffset, yoffset, width, height, patch)
+    let area = Rectangle {
+        x: xoffset,
+        y: yoffset,
+        width,
+        height,
+    };
+    let patch = Patch::new(m, area, patch)?;
+    patch.put(store);
+    Ok(())
 }
 
-#[tactic(auto, using(std::proofs::lemmas::Bool::Decides::nat_tests), unfolding(crate::specs::Parameters::ignored))]
-fn is_ignored(pname: u32) -> bool
-    ensures { result ≡ ignored pname }
-{
-    matches!(
-        pname,
-        consts::GL_TEXTURE_MIN_LOD_SGIS
+// What a parameter's name stands for. Document 01's port order 3 has names that are accepted without effect.
+#[derive(Clone, Copy, Debug, PartialEq, Eq, Hash)]
+enum Parameter {
+    MinFilter,
+    MagFilter,
+    WrapS,
+    WrapT,
+    Ignored,
+}
+
+impl TryFrom<u32> for Parameter {
+    type Error = Refusal;
+
+    ghost try_from_gives = { λ code r. r ≡ parameter_of code };
+
+    // Kept: each type reads its own codes, as the trait asks: one impl for a type. (2c)
+    #[tactic(auto, using(std::proofs::lemmas::Bool::Decides::nat_tests), unfolding(crate::specs::Parameters::parameter_of, crate::specs::Parameters::ignored))]
+    fn try_from(code: u32) -> Result<Self, Refusal> {
+        match code {
+            consts::GL_TEXTURE_MIN_FILTER => Ok(Parameter::MinFilter),
+            consts::GL_TEXTURE_MAG_FILTER => Ok(Parameter::MagFilter),
+            consts::GL_TEXTURE_WRAP_S => Ok(Parameter::WrapS),
+            consts::GL_TEXTURE_WRAP_T => Ok(Parameter::WrapT),
+            consts::GL_TEXTURE_MIN_LOD_SGIS
             | consts::GL_TEXTURE_MAX_LOD_SGIS
             | consts::GL_TEXTURE_BASE_LEVEL_SGIS
             | consts::GL_TEXTURE_MAX_LEVEL_SGIS
-            | consts::GL_TEXTURE_LOD_BIAS_EXT
-    )
+            | consts::GL_TEXTURE_LOD_BIAS_EXT => Ok(Parameter::Ignored),
+            _ => Err(Refusal::Code),
+        }
+    }
 }
 
 // Sets one of the four parameters, or none for a code accepted without effect.
-#[tactic(auto, using(std::proofs::lemmas::Bool::Decides::nat_tests), unfolding(crate::specs::Parameters::set_of, crate::specs::Parameters::set_check, crate::specs::Parameters::set_record))]
+// Kept: document 01's operation takes any name and any value, and refuses the unknown ones. (1m)
 pub fn set_parameter(texture: Texture, pname: u32, value: u32) -> Result<Texture, Refusal>
     ensures { setting (answer_number result) (record_after texture result) ≡ set_of texture pname value }
 {
-    match pname {
-        consts::GL_TEXTURE_MIN_FILTER => Ok(Texture {
+    match Parameter::try_from(pname)? {
+        Parameter::MinFilter => Ok(Texture {
             min_filter: MinFilter::try_from(value)?,
             ..texture
         }),
-        consts::GL_TEXTURE_MAG_FILTER => Ok(Texture {
+        Parameter::MagFilter => Ok(Texture {
             mag_filter: Filter::try_from(value)?,
             ..texture
         }),
-        consts::GL_TEXTURE_WRAP_S => Ok(Texture {
+        Parameter::WrapS => Ok(Texture {
             wrap_s: Wrap::try_from(value)?,
             ..texture
         }),
-        consts::GL_TEXTURE_WRAP_T => Ok(Texture {
+        Parameter::WrapT => Ok(Texture {
             wrap_t: Wrap::try_from(value)?,
             ..texture
         }),
-        _ if is_ignored(pname) => Ok(texture),
-        _ => Err(Refusal::Code),
+        Parameter::Ignored => Ok(texture),
     }
 }

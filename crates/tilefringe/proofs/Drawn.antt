@@ -6,12 +6,11 @@ use mathlib.Core.List.{List, [], ◌∷◌}
 use native.Mathlib.Omega.{arith}
 use lib.ListN.{length, get_or}
 use lib.Ieee.{Float}
+use Rattle.std.proofs.lemmas.Bool.{false≢true}
 use Rattle.std.proofs.Common.{Option, Some, None, Result, is_some, unwrap_or}
-use Rattle.lists.proofs.Choice.{true_false}
 use Rattle.std.proofs.lemmas.List.{get_or_default}
 use Rattle.answers.specs.declared.Refusal.{Refusal}
 use Rattle.settings.specs.declared.PipelineState.{PipelineState}
-use Rattle.settings.specs.Settings.{default_state}
 use Rattle.vertices.specs.declared.Vertex.{Vertex}
 use Rattle.vertices.specs.Vertex.{new_vertex}
 use Rattle.levels.specs.declared.Texture.{Texture}
@@ -85,4 +84,4 @@ module _ (w h : ℕ) (bu bs bv : List ℕ) (cs : List ℕ) (ds : List Float) whe
       go (Some u) eu t =
           drawn [] w h bu bs [] bv cs ds eu es no_stages_read ev a cs' ds'
           (e ∙ unstaged_draw w h _ _ _ _ cs ds [] (first_four []) u)
-      go None eu t = absurd (true_false (sym t))
+      go None eu t = absurd (false≢true t)

@@ -3,11 +3,13 @@ ghost use Rattle.std.specs.Prelude.{◌≡◌, []};
 ghost use Rattle.tilefringe.specs.DrawCalls.{called, call_number, draw_call};
 
 use answers::Refusal;
+use vertices::Triangle;
 
 // 255 * 2^32: a layout holds nothing.
 const WRONG_LAYOUT: u64 = 1095216660480;
 
 // The refusal's number above, and the count of pixel writes below.
+// Kept: the C interface's one number. (1k)
 fn call_number(answer: Option<Result<usize, Refusal>>) -> u64
     ensures { result ≡ call_number answer }
 {
@@ -19,6 +21,7 @@ fn call_number(answer: Option<Result<usize, Refusal>>) -> u64
 }
 
 // A draw of which no stage is in use reads no record, so none is made of the units' layout.
+// Kept: colours, depths and sides are parameters of the C interface and of draw, handed on as they come. (5c, 6c)
 fn draw_plain(
     colors: &mut [u8],
     depths: &mut [f32],
@@ -35,9 +38,10 @@ fn draw_plain(
     }
     let state = draw_layouts::read_settings(settings)?;
     let [a, b, c] = draw_layouts::read_vertices(vertices)?;
-    Some(draw::plain::draw_triangle(colors, depths, width, height, state, a, b, c))
+    Some(draw::plain::draw_triangle(colors, depths, width, height, state, Triangle { a, b, c }))
 }
 
+// Kept: as in `draw_plain`. (5c, 6c)
 fn draw_staged(
     colors: &mut [u8],
     depths: &mut [f32],
@@ -65,9 +69,7 @@ fn draw_staged(
         state,
         stages.first,
         stages.count,
-        a,
-        b,
-        c,
+        Triangle { a, b, c },
     ))
 }
 

@@ -26,7 +26,7 @@ pub extern "C" fn tf_sample(
     ensures { told result texel.new ≡ layout_sample layout.now store.now (coordinates s t dsdx dtdx dsdy dtdy) texel.old }
 {
     let Some(texture) = layouts::read_record(layout) else {
-        return 255;
+        return 255; // Kept: the C interface's answer for a layout that holds no record. (1j)
     };
     let p = Coordinates {
         s,

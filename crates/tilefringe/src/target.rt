@@ -9,6 +9,7 @@ ghost use Rattle.tilefringe.specs.Target.{scissor_of};
 use settings::{BlendFactor, CompareFunc, ScissorBox};
 
 // The scissor: none where boxed is 0.
+// Kept: the C interface has no Option; here it becomes one. (1o)
 #[tactic(auto, using(std::proofs::lemmas::Bool::Decides::nat_tests), unfolding(crate::specs::Target::scissor_of))]
 fn scissor(boxed: u32, x: i32, y: i32, width: i32, height: i32) -> Option<ScissorBox>
     ensures { result ≡ scissor_of boxed x y width height }
@@ -31,7 +32,7 @@ pub extern "C" fn tf_clear_color(
     g: u8,
     b: u8,
     a: u8,
-    boxed: u32,
+    boxed: u32, // Kept: the C interface has no Option. (1o)
     box_x: i32,
     box_y: i32,
     box_width: i32,
@@ -52,7 +53,7 @@ pub extern "C" fn tf_clear_depth(
     width: u32,
     height: u32,
     value: f32,
-    boxed: u32,
+    boxed: u32, // Kept: the C interface has no Option. (1o)
     box_x: i32,
     box_y: i32,
     box_width: i32,

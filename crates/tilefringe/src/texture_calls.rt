@@ -1,13 +1,12 @@
 // The operations on texture objects. A record is lent as its layout, and rewritten where a call is done.
 ghost use Rattle.std.specs.Prelude.{◌≡◌, [], length};
 ghost use Rattle.answers.specs.Results.{answer_number};
-ghost use Rattle.layouts.specs.Records.{read_texture};
 ghost use Rattle.levels.specs.declared.Texture.{Texture};
 ghost use Rattle.texture.specs.Define.{record_after};
-ghost use Rattle.texture.specs.Patch.{patched, patch_of};
 ghost use Rattle.tilefringe.specs.TextureCalls.{lent, written, new_call, define_call, patch_call, set_call};
 
 use answers::Refusal;
+use layouts::Layout;
 use levels::Texture;
 
 // A layout holds no record.
@@ -28,7 +27,7 @@ pub extern "C" fn tf_new_texture(layout: &mut [u8]) -> u32
     ensures { lent result layout.new [] ≡ new_call layout.old }
 {
     if layout.len() != 244 {
-        return WRONG_LAYOUT;
+        return WRONG_LAYOUT; // Kept: the C interface's answer; a Result would need a twin of each call beside it. (1j)
     }
     layouts::write_record(layout, Texture::new());
     0
@@ -47,37 +46,10 @@ pub extern "C" fn tf_define_level(
     ensures { lent result layout.new store.new ≡ define_call layout.old store.old level width height place rgba.now }
 {
     let Some(texture) = layouts::read_record(layout) else {
-        return WRONG_LAYOUT;
+        return WRONG_LAYOUT; // Kept: the C interface's answer; a Result would need a twin of each call beside it. (1j)
     };
     let defined = texture::define_level(store, texture, level, width, height, place, rgba);
     answers::number(write_back(layout, defined))
-}
-
-// A patch of the record that a layout holds, told from the layout as it stands.
-fn patch_at(
-    layout: &[u8],
-    store: &mut [u8],
-    level: u32,
-    xoffset: u32,
-    yoffset: u32,
-    width: u32,
-    height: u32,
-    patch: &[u8],
-) -> Result<(), Refusal>
-    requires { length layout.now ≡ 244 }
-    ensures { patched (answer_number result) store.new ≡ patch_of store.old (read_texture layout.now) level xoffset yoffset width height patch.now }
-{
-    if !layouts::is_valid_at(layout, store.len()) {
-        return Err(Refusal::Record);
-    }
-    if 10 < level {
-        return Err(Refusal::Level);
-    }
-    let m = layouts::image_level_at(layout, level as usize);
-    if !m.present {
-        return Err(Refusal::Level);
-    }
-    texture::patch_in_level(store, m, xoffset, yoffset, width, height, patch)
 }
 
 #[unsafe(no_mangle)]
@@ -93,11 +65,13 @@ pub extern "C" fn tf_patch_level(
 ) -> u32
     ensures { lent result layout.now store.new ≡ patch_call layout.now store.old level xoffset yoffset width height patch.now }
 {
-    if !layouts::is_known(layout) {
-        return WRONG_LAYOUT;
-    }
-    let answer = patch_at(layout, store, level, xoffset, yoffset, width, height, patch);
-    answers::number(answer)
+    // The record is told from the layout as it stands.
+    let Some(texture) = Layout::new(layout) else {
+        return WRONG_LAYOUT; // Kept: the C interface's answer; a Result would need a twin of each call beside it. (1j)
+    };
+    answers::number(texture::patch_level(
+        store, texture, level, xoffset, yoffset, width, height, patch,
+    ))
 }
 
 #[unsafe(no_mangle)]
@@ -105,7 +79,7 @@ pub extern "C" fn tf_set_parameter(layout: &mut [u8], pname: u32, value: u32) ->
     ensures { lent result layout.new [] ≡ set_call layout.old pname value }
 {
     let Some(texture) = layouts::read_record(layout) else {
-        return WRONG_LAYOUT;
+        return WRONG_LAYOUT; // Kept: the C interface's answer; a Result would need a twin of each call beside it. (1j)
     };
     let set = texture::set_parameter(texture, pname, value);
     answers::number(write_back(layout, set))

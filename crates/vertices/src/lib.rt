@@ -15,6 +15,14 @@ pub struct Vertex {
     pub fog_depth: f32,
 }
 
+// The corners of a triangle, in the order in which they are given.
+#[derive(Clone, Copy, Debug, PartialEq)]
+pub struct Triangle {
+    pub a: Vertex,
+    pub b: Vertex,
+    pub c: Vertex,
+}
+
 // The six sides of the frustum, and w above 0.
 #[derive(Clone, Copy, Debug, PartialEq, Eq, Hash)]
 pub enum Plane {
@@ -69,6 +77,7 @@ fn mix_each<const N: usize>(a: &[f32; N], b: &[f32; N], t: f32) -> [f32; N]
     ensures { result ≡ mixed N t a.now b.now }
 {
     let mut mixed = [0.0; N];
+    // Kept: with `array::from_fn` goal `returns` stays open: of a closure in a function generic in N, `search` finds no call's result. (3c)
     for i in 0..N {
         mixed[i] = mix(a[i], b[i], t);
     }
@@ -78,6 +87,7 @@ fn mix_each<const N: usize>(a: &[f32; N], b: &[f32; N], t: f32) -> [f32; N]
 const CLIP_W_EPSILON: f32 = 1.0e-8;
 
 impl Vertex {
+    // Kept: a public function, which docs/RULES.md names; a Default that calls it would stand beside it, and no code asks for one. (4m)
     pub fn new() -> Self
         ensures { result ≡ new_vertex }
     {

@@ -1,15 +1,16 @@
 -- What the premises ask of one call, as it is made, and when a call of each kind keeps it. Assumes nothing.
 use mathlib.Core.Path.{◌≡◌, sym, ◌∙◌, subst}
 use mathlib.Core.Logic.{◌⊎◌, inl, inr, ◌≢◌}
-use mathlib.Core.Bool.{Bool, true, false, true≢false}
+use mathlib.Core.Bool.{Bool, true, false}
 use mathlib.Core.Option.{Option, none, some}
 use mathlib.Core.List.{List, [], ◌∷◌}
 use Prim.Native.Nat.{ℕ}
 use lib.Dec.{eqb}
 use lib.Ieee.{Float}
 use borrow.Author.Tests.{eqb-true}
+use Rattle.std.proofs.lemmas.Bool.{true≢false, false≢true}
 use Rattle.lists.specs.Lists.{all}
-use Rattle.lists.proofs.Choice.{was_true, true_false}
+use Rattle.lists.proofs.Choice.{was_true}
 use Rattle.scissor.specs.Scissor.{pixel_in}
 use Rattle.isolation.specs.Machine.{Guest, Moment, In, Own, answer, WritesAt, ReadsAt}
 use Rattle.isolation.specs.Acts.{Uses}
@@ -51,8 +52,8 @@ pub all_owned : (g : Guest) (last : Place → Option Guest) (l : List ℕ) → a
 unfolding all
 all_owned g last [] e b m = absurd m
 all_owned g last (x ∷ l) e b (inl q) =
-    subst (λ (k : ℕ). Own g (last (byte k))) (sym q) (owned g (last (byte x)) (was_true (owned_by g (last (byte x))) e (λ z. true_false (sym z))).0)
-all_owned g last (x ∷ l) e b (inr m) = all_owned g last l (was_true (owned_by g (last (byte x))) e (λ z. true_false (sym z))).1 b m
+    subst (λ (k : ℕ). Own g (last (byte k))) (sym q) (owned g (last (byte x)) (was_true (owned_by g (last (byte x))) e false≢true).0)
+all_owned g last (x ∷ l) e b (inr m) = all_owned g last l (was_true (owned_by g (last (byte x))) e false≢true).1 b m
 
 -- ---- one call
 

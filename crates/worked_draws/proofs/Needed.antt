@@ -1,10 +1,11 @@
 -- Each premise is needed: without it the claim is false of a short list with a draw that meets the others. Assumes nothing.
 use mathlib.Core.Path.{◌≡◌, refl, sym, ap, ◌∙◌}
 use mathlib.Core.Logic.{◌⊎◌, inl, inr}
-use mathlib.Core.Bool.{true, false, true≢false}
+use mathlib.Core.Bool.{true, false}
 use mathlib.Core.List.{List}
 use Prim.Native.Nat.{ℕ}
 use native.Mathlib.Omega.{arith}
+use Rattle.std.proofs.lemmas.Bool.{false≢true}
 use Rattle.settings.specs.declared.ScissorBox.{ScissorBox}
 use Rattle.isolation.specs.Machine.{Guest, Turn, In, Own, Machine, nobody, moments, ReadsAt}
 use Rattle.isolation.specs.Acts.{Uses}
@@ -39,16 +40,13 @@ module _ (w : Guest → ScissorBox) (ms : List (Turn SixCall)) where
   all_own : All (λ (e : Then). (b : ℕ) → ReadsAt On e (byte b) → Own e.turn.who (e.last (byte b))) (moments On ms start (nobody On)) → Bytes w ms
   all_own h e i b r = each _ (moments On ms start (nobody On)) h e i b r
 
-never : {A : Type 0} → false ≡ true → A
-never e = absurd (true≢false (sym e))
-
 -- ---- windows that share a pixel
 
 inside_over : BoxesInside one_window overdrawn
 inside_over = all_are_inside one_window overdrawn ((λ p x. x), ((λ p x. x), ((λ p x. x), tt)))
 
 textures_over : Textures one_window overdrawn
-textures_over = no_textures one_window overdrawn ((λ s n e. never e), ((λ s n e. never e), ((λ s n e. never e), tt)))
+textures_over = no_textures one_window overdrawn ((λ s n e. absurd (false≢true e)), ((λ s n e. absurd (false≢true e)), ((λ s n e. absurd (false≢true e)), tt)))
 
 bytes_over : Bytes one_window overdrawn
 unfolding opened
@@ -65,7 +63,7 @@ windows_needed = (inside_over, textures_over, bytes_over, over_false)
 -- ---- a box past its window
 
 textures_out : Textures window out_of_bounds
-textures_out = no_textures window out_of_bounds ((λ s n e. never e), ((λ s n e. never e), tt))
+textures_out = no_textures window out_of_bounds ((λ s n e. absurd (false≢true e)), ((λ s n e. absurd (false≢true e)), tt))
 
 bytes_out : Bytes window out_of_bounds
 unfolding opened
@@ -102,7 +100,7 @@ By x m = In m (names_of x)
 
 by_names : (x : DrawCall) (s : Shared) (m : ℕ) → Uses (drawing x) s (texture m) → By x m
 by_names x s m (inl r) = r.1
-by_names x s m (inr e) = never e
+by_names x s m (inr e) = absurd (false≢true e)
 
 -- each guest names one texture, of its own number
 abbrev Names : Turn SixCall → Type 0

@@ -1,11 +1,12 @@
 -- The premises can be met with draws in the list: the worked list meets them, and so the claim holds of it. Assumes nothing.
 use mathlib.Core.Path.{◌≡◌, refl, sym, ◌∙◌, subst}
 use mathlib.Core.Logic.{◌⊎◌, inl, inr}
-use mathlib.Core.Bool.{true, false, true≢false}
+use mathlib.Core.Bool.{true, false}
 use mathlib.Core.Option.{Option}
 use mathlib.Core.List.{List, [], ◌∷◌}
 use Prim.Native.Nat.{ℕ}
 use native.Mathlib.Omega.{arith}
+use Rattle.std.proofs.lemmas.Bool.{false≢true}
 use Rattle.isolation.specs.Machine.{Guest, Turn, next, nobody, mark, moments}
 use Rattle.frames.specs.State.{Place}
 use Rattle.frames.specs.Windows.{Inside, TexturesApart, BytesApart, During}
@@ -30,9 +31,6 @@ comes = record { answers_0 = refl; answers_1 = refl; answers_2 = refl; bill_0 = 
 -- ---- the premises
 
 -- what a refused call has not read, or not written
-no : {A : Type 0} (n : ℕ) → false ≡ true → A
-no n w = absurd (true≢false (sym w))
-
 -- a list of one name
 only : (k n : ℕ) → (n ≡ k) ⊎ ⊥ → n ≡ k
 only k n (inl e) = e
@@ -84,31 +82,31 @@ good_draws1 = good_draw 1 s11 w11 _ (λ p x. taller 1 1 9 p (omega arith) x) (ow
 
 good_bad_color : Good (made 1 s12 w12 bad_color.call)
 unfolding opened
-good_bad_color = good_refused 1 s12 w12 bad_color.call refl (λ n k. no n k) (λ n r. absurd r) (λ b r. absurd r)
+good_bad_color = good_refused 1 s12 w12 bad_color.call refl (λ n k. absurd (false≢true k)) (λ n r. absurd r) (λ b r. absurd r)
 
 good_bad_depth : Good (made 0 s12 w13 bad_depth.call)
 unfolding opened
-good_bad_depth = good_refused 0 s12 w13 bad_depth.call refl (λ n k. no n k) (λ n r. absurd r) (λ b r. absurd r)
+good_bad_depth = good_refused 0 s12 w13 bad_depth.call refl (λ n k. absurd (false≢true k)) (λ n r. absurd r) (λ b r. absurd r)
 
 good_bad_stage : Good (made 2 s12 w14 bad_stage.call)
 unfolding opened
-good_bad_stage = good_refused 2 s12 w14 bad_stage.call refl (λ n k. no n k) (λ n r. no n r.0) (λ b r. no b r.0.0)
+good_bad_stage = good_refused 2 s12 w14 bad_stage.call refl (λ n k. absurd (false≢true k)) (λ n r. absurd (false≢true r.0)) (λ b r. absurd (false≢true r.0.0))
 
 good_bad_vertex : Good (made 2 s12 w15 bad_vertex.call)
 unfolding opened
-good_bad_vertex = good_refused 2 s12 w15 bad_vertex.call refl (λ n k. no n k) (λ n r. only 3 n r.1) (λ b r. no b r.0.1)
+good_bad_vertex = good_refused 2 s12 w15 bad_vertex.call refl (λ n k. absurd (false≢true k)) (λ n r. only 3 n r.1) (λ b r. absurd (false≢true r.0.1))
 
 good_bad_define : Good (made 1 s12 w16 bad_define.call)
 unfolding opened
-good_bad_define = good_refused 1 s12 w16 bad_define.call refl (λ n k. no n k) (λ n r. no n r.1) (λ b r. absurd r)
+good_bad_define = good_refused 1 s12 w16 bad_define.call refl (λ n k. absurd (false≢true k)) (λ n r. absurd (false≢true r.1)) (λ b r. absurd r)
 
 good_bad_patch : Good (made 0 s13 w17 bad_patch.call)
 unfolding opened
-good_bad_patch = good_refused 0 s13 w17 bad_patch.call refl (λ n k. no n k) (λ n r. r) (λ b r. absurd r)
+good_bad_patch = good_refused 0 s13 w17 bad_patch.call refl (λ n k. absurd (false≢true k)) (λ n r. r) (λ b r. absurd r)
 
 good_bad_set : Good (made 2 s14 w18 bad_set.call)
 unfolding opened
-good_bad_set = good_refused 2 s14 w18 bad_set.call refl (λ n k. no n k) (λ n r. no n r.1) (λ b r. absurd r)
+good_bad_set = good_refused 2 s14 w18 bad_set.call refl (λ n k. absurd (false≢true k)) (λ n r. absurd (false≢true r.1)) (λ b r. absurd r)
 
 -- one call after the other
 then : (m : Turn SixCall) (ms : List (Turn SixCall)) (s t : Shared) (w : Place → Option Guest) → next M m.call s ≡ t → Good (made m.who s w m.call)

@@ -1,4 +1,5 @@
 -- Which textures the five kinds of call use, that they read no texel byte, and the columns of a window. Assumes nothing.
+use Rattle.std.proofs.lemmas.Bool.{and_parts}
 use Rattle.std.specs.Prelude.{Option, Some}
 use mathlib.Core.Path.{◌≡◌, sym}
 use mathlib.Core.Logic.{inl, inr}
@@ -8,7 +9,6 @@ use lib.Dec.{eqb, ltb}
 use borrow.Author.Tests.{eqb-true}
 use Rattle.settings.specs.declared.ScissorBox.{ScissorBox}
 use Rattle.scissor.specs.Scissor.{within, in_box, pixel_in}
-use Rattle.scissor.proofs.Boxes.{split}
 use Rattle.isolation.specs.Machine.{Act}
 use Rattle.isolation.specs.Acts.{Uses}
 use Rattle.frames.specs.State.{Place, byte, texture, Answer}
@@ -66,7 +66,7 @@ reads_no_byte (set_parameter n code value) s a r = r
 module _ (width height : ℕ) (b : ScissorBox) (p : ℕ) (e : pixel_in width height (Some b) p ≡ true) where
   both : (within b.x b.width (p % width) ≡ true) × (within b.y b.height (height - 1 - p / width) ≡ true)
   unfolding in_box
-  both = split (within b.x b.width (p % width)) _ (split (ltb (p % width) width && ltb (p / width) height) _ e).1
+  both = and_parts (within b.x b.width (p % width)) _ (and_parts (ltb (p % width) width && ltb (p / width) height) _ e).1
 
   pub in_columns : within b.x b.width (p % width) ≡ true
   in_columns = both.0

@@ -1,4 +1,5 @@
 -- The premises can be met: the worked list meets them, with refused calls of each kind among it. Assumes nothing.
+use Rattle.std.proofs.lemmas.Bool.{and_parts}
 use Rattle.std.specs.Prelude.{Some}
 use mathlib.Core.Path.{◌≡◌, refl, sym, ap, ◌∙◌, subst}
 use mathlib.Core.Logic.{◌⊎◌, inl, inr, ◌≢◌}
@@ -13,7 +14,6 @@ use Rattle.isolation.specs.Machine.{Guest, Moment, Machine, answers_of, answer, 
 use Rattle.frames.specs.State.{Place, texture, Answer, done, refused, is_refused}
 use Rattle.frames.specs.Windows.{machine, During, Disjoint, Inside, TexturesApart}
 use Rattle.scissor.specs.Scissor.{within, in_box, pixel_in}
-use Rattle.scissor.proofs.Boxes.{split}
 use Rattle.guests.specs.Calls.{Shared}
 use Rattle.guests.specs.Guests.{Call, meaning, InBox, InWindow, bad_target, no_drawing, no_scissor, GuestPremises, GuestClaim}
 use Rattle.worked_guests.specs.Worked.{start, window, calls, column}
@@ -37,13 +37,13 @@ answers_1 = refl
 -- ---- windows share no pixel
 
 column_0 : (p : ℕ) → InWindow window 2 1 0 p → p % 2 < 1
-column_0 p e = ltb-true (p % 2) 1 (split (leb 0 (p % 2)) (ltb (p % 2) 1) (in_columns 2 1 (column 0 9) p e)).1
+column_0 p e = ltb-true (p % 2) 1 (and_parts (leb 0 (p % 2)) (ltb (p % 2) 1) (in_columns 2 1 (column 0 9) p e)).1
 
 column_1 : (p : ℕ) → InWindow window 2 1 1 p → 1 ≤ p % 2
-column_1 p e = leb-true 1 (p % 2) (split (leb 1 (p % 2)) (ltb (p % 2) 2) (in_columns 2 1 (column 1 9) p e)).0
+column_1 p e = leb-true 1 (p % 2) (and_parts (leb 1 (p % 2)) (ltb (p % 2) 2) (in_columns 2 1 (column 1 9) p e)).0
 
 no_row : (g p : ℕ) → InWindow window 2 1 (suc (suc g)) p → ⊥
-no_row g p e = omega (arith, ltb-true (1 - 1 - p / 2) 0 (split (leb 0 (1 - 1 - p / 2)) (ltb (1 - 1 - p / 2) 0) (in_rows 2 1 (column 0 0) p e)).1)
+no_row g p e = omega (arith, ltb-true (1 - 1 - p / 2) 0 (and_parts (leb 0 (1 - 1 - p / 2)) (ltb (1 - 1 - p / 2) 0) (in_rows 2 1 (column 0 0) p e)).1)
 
 pub disjoint : Disjoint (meaning no_drawing no_scissor) (InBox no_drawing no_scissor) (InWindow window) bad_target start
 disjoint zero zero n p a b = n refl
@@ -63,9 +63,9 @@ Kept e = is_refused (answer M e.turn.call e.before) ≡ false → (p : ℕ) → 
 pub taller : (x n m p : ℕ) → n ≤ m → pixel_in 2 1 (Some (column x n)) p ≡ true → pixel_in 2 1 (Some (column x m)) p ≡ true
 unfolding in_box
 taller x n m p h e =
-    let a = split (ltb (p % 2) 2 && ltb (p / 2) 1) _ e in
-    let b = split (within (pos x) (pos 1) (p % 2)) _ a.1 in
-    let d = split (leb 0 (0 - p / 2)) (ltb (0 - p / 2) (0 + n)) b.1 in
+    let a = and_parts (ltb (p % 2) 2 && ltb (p / 2) 1) _ e in
+    let b = and_parts (within (pos x) (pos 1) (p % 2)) _ a.1 in
+    let d = and_parts (leb 0 (0 - p / 2)) (ltb (0 - p / 2) (0 + n)) b.1 in
     rw (a.0, b.0, d.0, lt-ltb (0 - p / 2) (0 + m) (omega (arith, ltb-true (0 - p / 2) (0 + n) d.1)))
 
 inside : Inside (meaning no_drawing no_scissor) (InBox no_drawing no_scissor) (InWindow window) bad_target calls start

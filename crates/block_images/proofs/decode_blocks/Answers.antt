@@ -1,13 +1,10 @@
 use mathlib.Core.Path.{◌≡◌, ◌∙◌}
 use native.Mathlib.Omega.{arith}
-use Rattle.lists.proofs.Turns.{iter_none, iter_more}
+use Rattle.lists.proofs.Turns.{iter_more}
 use Rattle.blocks.specs.Blocks.{block_bytes, block_texel}
 use Rattle.block_images.specs.Walk.{blocks_over, put_rows}
 use Rattle.block_images.proofs.Walks.{walk_image, block_four}
 use Rattle.block_images.proofs.decode_blocks.Goals as goal
-
-pub loop-by-init : goal.loop-by-init
-loop-by-init c = iter_none _ _
 
 pub loop-by-preserved : goal.loop-by-preserved
 loop-by-preserved c = rw (← iter_more, ← c.loop-by.invariant) c.decode_row.ensures

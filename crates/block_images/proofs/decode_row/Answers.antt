@@ -1,11 +1,8 @@
 use mathlib.Core.Path.{◌≡◌, ◌∙◌}
 use native.Mathlib.Omega.{arith}
-use Rattle.lists.proofs.Turns.{iter_none, iter_more}
+use Rattle.lists.proofs.Turns.{iter_more}
 use Rattle.block_images.specs.Walk.{blocks_over, put_row}
 use Rattle.block_images.proofs.decode_row.Goals as goal
-
-pub loop-bx-init : goal.loop-bx-init
-loop-bx-init c = iter_none _ _
 
 pub loop-bx-preserved : goal.loop-bx-preserved
 loop-bx-preserved c = rw (← iter_more, ← c.loop-bx.invariant) c.decode_block.ensures

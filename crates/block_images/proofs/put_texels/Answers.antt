@@ -3,16 +3,13 @@ use Prim.Native.Nat.{◌+◌, ◌*◌, ◌/◌, ◌%◌, ◌<◌}
 use native.Mathlib.Omega.{arith}
 use borrow.Author.Rules.{rules}
 use lib.Arith.{digits_lt}
-use Rattle.lists.proofs.Turns.{iter_none, iter_more}
-use Rattle.lists.proofs.Choice.{true_false}
+use Rattle.std.proofs.lemmas.Bool.{true≢false}
+use Rattle.lists.proofs.Turns.{iter_more}
 use Rattle.blocks.specs.Blocks.{texel_from}
 use Rattle.block_images.specs.Walk.{put_nth, put_block}
 use Rattle.block_images.proofs.Walks.{put_inside, put_outside}
 use Rattle.block_images.proofs.put_texels.Goals as goal
 use Rattle.block_images.proofs.put_texels.Goals.{then-this-ne0-via-then-this-ne0, then-this-ne0-via-else-this-ne0+then-has, then-this-ne0, else-this-ne0+else-has}
-
-pub loop-i-init : goal.loop-i-init
-loop-i-init g c = iter_none _ _
 
 pub put4-requires : goal.put4-requires
 put4-requires g c =
@@ -50,7 +47,7 @@ loop-i-preserved g c =
                 sym (put_inside p.sides.w p.sides.h texel p.bx p.by i c.loop-i.out r.0 r.1)
           ])
       | else-this-ne0+else-has w ↦
-          w.out-is ∙ sym (put_outside p.sides.w p.sides.h texel p.bx p.by i c.loop-i.out (λ x y. true_false (sym (w.has.ensures.1 (x, y)) ∙ w.if-has.false)))
+          w.out-is ∙ sym (put_outside p.sides.w p.sides.h texel p.bx p.by i c.loop-i.out (λ x y. true≢false (sym (w.has.ensures.1 (x, y)) ∙ w.if-has.false)))
     ] in
     rw (← iter_more, ← c.loop-i.invariant) next
 

@@ -6,6 +6,7 @@ use native.Mathlib.Omega.{arith}
 use Rattle.channels.proofs.Rounded.{doubled, small}
 use Rattle.channels.proofs.rounded_byte.Goals as goal
 
+-- Kept: as held-requires of to_byte (8a)
 pub held-t-requires : goal.held-t-requires
 unfolding of_bits lt
 held-t-requires c = refl

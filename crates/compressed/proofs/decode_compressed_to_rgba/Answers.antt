@@ -41,19 +41,19 @@ returns-then-width-eq0-clause-left c =
     ] in
     empty_left (compressed_of a.format) a.width a.height a.s.now a.out.now c.in_ok-sides.ensures.0 z
 
-pub returns-in_err-ok_or-clause-number : goal.returns-in_err-ok_or-clause-number
-returns-in_err-ok_or-clause-number c =
+pub returns-in_err-try_from-clause-number : goal.returns-in_err-try_from-clause-number
+returns-in_err-try_from-clause-number c =
     let a = c.args in
     let z = no_zero a.width a.height c.if-width-eq0.false c.if-height-eq0.false in
     let n : compressed_of a.format ≡ None = grind arith in
-    let e : c.in_err-ok_or.field-0.0 ≡ Format = grind arith in
-    passed_on _ _ c.from_residual-in_err-ok_or.ensures.1
+    let e : c.in_err-try_from.field-0.0 ≡ Format = grind arith in
+    passed_on _ _ c.from_residual-in_err-try_from.ensures.1
     ∙ rw (e, n)
     (known_14 None a.width a.height (length a.s.now) (length a.out.now) refl
     ∙ known_check_is None a.width a.height (length a.s.now) (length a.out.now) c.in_ok-sides.ensures.0 z)
 
-pub returns-in_err-ok_or-clause-left : goal.returns-in_err-ok_or-clause-left
-returns-in_err-ok_or-clause-left c =
+pub returns-in_err-try_from-clause-left : goal.returns-in_err-try_from-clause-left
+returns-in_err-try_from-clause-left c =
     let a = c.args in
     let z = no_zero a.width a.height c.if-width-eq0.false c.if-height-eq0.false in
     let n : compressed_of a.format ≡ None = grind arith in
@@ -66,7 +66,7 @@ pub returns-clause-number : goal.returns-clause-number
 returns-clause-number c =
     let a = c.args in
     let s = c.in_ok-sides.ensures in
-    let f = c.in_ok-ok_or.field-0 in
+    let f = c.in_ok-try_from.field-0 in
     let n : compressed_of a.format ≡ Some f = grind arith in
     c.decode.ensures.number
     ∙ rw (s.1, s.2, n)
@@ -77,7 +77,7 @@ pub returns-clause-left : goal.returns-clause-left
 returns-clause-left c =
     let a = c.args in
     let s = c.in_ok-sides.ensures in
-    let f = c.in_ok-ok_or.field-0 in
+    let f = c.in_ok-try_from.field-0 in
     let n : compressed_of a.format ≡ Some f = grind arith in
     c.decode.ensures.left
     ∙ rw (s.1, s.2, n)

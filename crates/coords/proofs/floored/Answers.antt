@@ -1,5 +1,5 @@
 use lib.Ieee.{of_bits}
-use mathlib.Core.Path.{refl, sym}
+use mathlib.Core.Path.{refl}
 use native.Mathlib.Omega.{arith}
 use Rattle.coords.proofs.Quick.{few_part, floored_above, floored_below, small_float, minus_above, held_whole, held_below}
 use Rattle.coords.proofs.floored.Goals as goal
@@ -18,9 +18,6 @@ int_to_float-result-then-y c = small_float _ (omega (arith, c.below_part-n.ensur
 
 pub returns-then-y : goal.returns-then-y
 returns-then-y c = held_below _ _ _ (record { sfits = c.from-then-y.type_inv }) _ c.below_part-n.ensures.0 c.from-then-y.ensures (floored_below _ _ _ refl c.below_part-n.ensures.1)
-
-pub returns : goal.returns
-returns c = held_whole _ _ _ (record { sfits = c.saturating_f32_to_i64.type_inv }) c.saturating_f32_to_i64.result refl (record { whole = rw (sym c.floor-low.ensures) c.saturating_f32_to_i64.ensures; low = c.floor-low.ensures })
 
 pub whole_part-n-requires-clause-part : goal.whole_part-n-requires-clause-part
 unfolding of_bits

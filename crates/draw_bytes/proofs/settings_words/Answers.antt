@@ -8,17 +8,17 @@ use Rattle.draw_bytes.proofs.settings_words.Goals as goal
 pub returns : goal.returns
 unfolding settings_words
 returns c =
-    λ t. get_or (c.viewport_words-v.ensures t) 0 0
-    ∷ get_or (c.viewport_words-v.ensures t) 1 0
-    ∷ get_or (c.viewport_words-v.ensures t) 2 0
-    ∷ get_or (c.viewport_words-v.ensures t) 3 0
+    λ t. get_or (c.viewport_words.ensures t) 0 0
+    ∷ get_or (c.viewport_words.ensures t) 1 0
+    ∷ get_or (c.viewport_words.ensures t) 2 0
+    ∷ get_or (c.viewport_words.ensures t) 3 0
     ∷ c.float_bits.ensures t
     ∷ c.float_bits-2.ensures t
     ∷ (c.from.ensures ∙ switch_is _ ∙ ap switch_word c.is_some.ensures) t
-    ∷ get_or (c.box_words-w.ensures t) 0 0
-    ∷ get_or (c.box_words-w.ensures t) 1 0
-    ∷ get_or (c.box_words-w.ensures t) 2 0
-    ∷ get_or (c.box_words-w.ensures t) 3 0
+    ∷ get_or (c.box_words.ensures t) 0 0
+    ∷ get_or (c.box_words.ensures t) 1 0
+    ∷ get_or (c.box_words.ensures t) 2 0
+    ∷ get_or (c.box_words.ensures t) 3 0
     ∷ (c.from-2.ensures ∙ switch_is _) t
     ∷ c.from-3.ensures t
     ∷ (c.from-4.ensures ∙ switch_is _) t

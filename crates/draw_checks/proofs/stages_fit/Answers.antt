@@ -1,4 +1,7 @@
-use Rattle.std.proofs.Common.{◌≡◌, arith, rules, ◌∙◌, length}
+use Rattle.std.proofs.lemmas.Iterator.{YieldsList-from_slice}
+use Rattle.std.proofs.lemmas.Iterator.Search.{all_from_yields_List}
+use Rattle.std.proofs.Common.{◌≡◌, arith, rules, ◌∙◌, length, take}
+use Rattle.std.specs.List.{list_all}
 use borrow.Author.Tests.{le-leb, lt-leb}
 use Rattle.lists.proofs.Choice.{yes, no}
 use Rattle.draw_checks.specs.Checks.{stage_fits, stages_fit}
@@ -12,7 +15,9 @@ slice_bounds-stages-end c =
 
 pub returns-then-count-le4 : goal.returns-then-count-le4
 unfolding stages_fit
-returns-then-count-le4 c = yes _ (le-leb c.args.count 4 c.if-count-le4.true) (c.each_stage_fits.ensures ∙ below_take stage_fits c.args.stages _ c.args.count (search rules))
+returns-then-count-le4 c =
+    let each : c.all.result ≡ list_all stage_fits (take c.args.count c.args.stages) = all_from_yields_List stage_fits _ _ _ c.all.ensures.ran (YieldsList-from_slice (take c.args.count c.args.stages) cc) (λ x b q k. search rules) in
+    yes _ (le-leb c.args.count 4 c.if-count-le4.true) (each ∙ below_take stage_fits c.args.stages _ c.args.count (search rules))
 
 pub returns-else-count-le4 : goal.returns-else-count-le4
 unfolding stages_fit

@@ -1,14 +1,15 @@
-use mathlib.Core.Path.{refl}
+use mathlib.Core.Path.{refl, sym, ◌∙◌}
 use native.Mathlib.Omega.{arith}
 use Rattle.answers.specs.declared.Refusal.TheVariants.{Target}
 use mathlib.Core.Path.{◌≡◌}
 use lib.ListN.{length}
 use Rattle.answers.specs.Numbers.{refusal_number}
 use Rattle.answers.proofs.Answered.{refused_test, done_test}
-use Rattle.lists.proofs.Choice.{yes, no, stay, leave}
+use Rattle.lists.proofs.Choice.{yes, no, stay, leave, was_so}
 use Rattle.export.specs.Export.{export_check}
 use Rattle.export.specs.Export.{rgb565_of, exported_of}
-use Rattle.scissor.proofs.Outcome.{target_is, passed}
+use Rattle.scissor.proofs.Outcome.{target_is}
+use borrow.Author.Tests.{not-false}
 use Rattle.export.proofs.to_rgb565.Goals as goal
 
 pub returns-then-not-target_fits : goal.returns-then-not-target_fits
@@ -19,7 +20,7 @@ returns-then-not-target_fits c =
 
 pub export_pixels-requires : goal.export_pixels-requires
 export_pixels-requires c =
-    let t = target_is _ _ _ _ (passed c.target_fits.ensures c.if-not-target_fits.false-raw) in
+    let t = target_is _ _ _ _ (sym c.target_fits.ensures ∙ not-false _ c.if-not-target_fits.false-raw) in
     (omega (arith, t, c.min.ensures), omega (arith, c.min.ensures))
 
 pub returns : goal.returns

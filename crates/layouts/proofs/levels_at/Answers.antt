@@ -1,11 +1,8 @@
 use Rattle.std.proofs.Common.{◌≡◌, ◌∙◌, replicate, arith}
-use Rattle.lists.proofs.Tables.{tab_none, tab_more, tab_all}
+use Rattle.lists.proofs.Tables.{tab_more, tab_all}
 use Rattle.levels.specs.Levels.{absent}
 use Rattle.layouts.specs.Records.{read_level}
 use Rattle.layouts.proofs.levels_at.Goals as goal
-
-pub loop-i-init : goal.loop-i-init
-loop-i-init c = tab_none _ _
 
 pub loop-i-preserved : goal.loop-i-preserved
 loop-i-preserved c = rw (c.level_at.ensures, c.loop-i.invariant) (tab_more (read_level c.args.b.now) c.loop-i.i _ (omega arith))

@@ -1,7 +1,5 @@
-use mathlib.Core.Path.{refl}
 use native.Mathlib.Omega.{arith}
 use native.Mathlib.Nat.{mul-le-mul}
-use Rattle.levels.specs.Levels.{size_of}
 use Rattle.levels.proofs.size_of.Goals as goal
 
 pub overflow_mul-result : goal.overflow_mul-result
@@ -9,7 +7,3 @@ overflow_mul-result c = omega (arith, mul-le-mul {n₁ = c.args.m.height} {m₁ 
 
 pub overflow_mul-result-2 : goal.overflow_mul-result-2
 overflow_mul-result-2 c = omega (arith, mul-le-mul {n₁ = c.args.m.height} {m₁ = c.args.m.width} {n₂ = 1024} {m₂ = 1024} (omega arith) (omega arith))
-
-pub returns : goal.returns
-unfolding size_of
-returns c = refl

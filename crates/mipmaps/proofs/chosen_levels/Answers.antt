@@ -1,14 +1,37 @@
-use mathlib.Core.Path.{◌∙◌, sym}
-use Rattle.mipmaps.specs.Mipmaps.{chosen_of}
+use mathlib.Core.Path.{◌≡◌, refl, sym, ◌∙◌}
+use native.Mathlib.Omega.{arith}
+use Rattle.std.proofs.lemmas.Bool.{true≢false, false≢true}
+use Rattle.std.proofs.Common.{rules, Bool, true, false, not, Option, Some, None}
+use Rattle.std.specs.Option.{is_some}
+use Rattle.lists.proofs.Choice.{yes, no}
+use Rattle.mipmaps.specs.declared.Mipmap.{Mipmap}
+use Rattle.detail.proofs.Cut.{cut_le}
+use Rattle.mipmaps.specs.Mipmaps.{texel_filter, minified, chosen_of}
 use Rattle.mipmaps.proofs.Choices.{without_levels, without_mipmaps}
 use Rattle.mipmaps.proofs.chosen_levels.Goals as goal
+use Rattle.mipmaps.proofs.chosen_levels.Goals.{then-top-eq0, else-top-eq0}
 
-pub returns-then-top-eq0 : goal.returns-then-top-eq0
-returns-then-top-eq0 c = c.level_zero.ensures ∙ rw c.texel_filter-filter.ensures (without_levels _ _ _ _ _ _ c.if-top-eq0.true)
+nothing : (m : Option Mipmap) (b : Bool) → is_some m ≡ not b → b ≡ true → m ≡ None
+nothing None b e h = refl
+nothing (Some m) true e h = absurd (true≢false e)
+nothing (Some m) false e h = absurd (false≢true h)
 
-pub returns-in-Off : goal.returns-in-Off
-returns-in-Off c = c.level_zero-in-Off.ensures ∙ rw c.texel_filter-filter.ensures (without_mipmaps _ _ _ _ _ _ (sym c.mipmap_filter-mode.ensures ∙ c.in-Off.is))
+pub returns-then-is_none : goal.returns-then-is_none
+returns-then-is_none c =
+    let e : texel_filter c.args.min ≡ c.args.mag = let h = c.if-eq.ensures in search rules in
+    elim c.if-top-eq0.branch [ then-top-eq0 w ↦ without_levels _ _ _ _ _ _ e w.if-top-eq0.true | else-top-eq0 w ↦ without_mipmaps _ _ _ _ _ _ e (sym c.mipmap_filter-mode.ensures ∙ nothing _ _ w.is_none.ensures (sym w.value-is ∙ c.if-is_none.true)) ]
+
+pub levels-requires : goal.levels-requires
+levels-requires c = omega (arith, c.cut_steps.ensures, cut_le c.q-q.result c.args.top, c.requires.top_in)
+
+pub returns-in-Some : goal.returns-in-Some
+unfolding chosen_of
+returns-in-Some c = rw (sym c.q-q.ensures) (yes _ c.if-q.true (c.levels.ensures ∙ rw (sym c.texel_filter-filter.ensures, sym c.mipmap_filter-mode.ensures, c.in-Some.is, c.cut_steps.ensures)))
+
+pub returns-in-None : goal.returns-in-None
+unfolding chosen_of minified
+returns-in-None c = rw (sym c.q-q.ensures) (yes _ c.if-q.true (rw (sym c.texel_filter-filter.ensures, sym c.mipmap_filter-mode.ensures, c.in-None.is)))
 
 pub returns : goal.returns
 unfolding chosen_of
-returns c = c.mipmapped.ensures ∙ rw (c.q_at.ensures, c.texel_filter-filter.ensures, c.mipmap_filter-mode.ensures)
+returns c = rw (sym c.q-q.ensures) (no _ c.if-q.false refl)

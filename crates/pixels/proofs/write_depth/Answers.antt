@@ -1,13 +1,9 @@
 use lib.Seq.{set-get_or}
 use mathlib.Core.Path.{sym}
-use Rattle.frames.specs.State.{pixel_at}
-use Rattle.pixels.specs.Way.{written_of}
 use Rattle.pixels.proofs.write_depth.Goals as goal
 
 pub returns-then-state : goal.returns-then-state
-unfolding written_of pixel_at
 returns-then-state c = rw c.if-state.true
 
 pub returns-else-state : goal.returns-else-state
-unfolding written_of pixel_at
 returns-else-state c = rw c.if-state.false (sym (set-get_or _ _ _))

@@ -7,7 +7,7 @@ pub loop-i-init : goal.loop-i-init
 loop-i-init c = (search rules, corners_none _)
 
 pub put_corner-requires : goal.put_corner-requires
-put_corner-requires c = (search rules, omega (arith, ap length c.corners-vertex-items.ensures.same))
+put_corner-requires c = omega (arith, ap length c.corners-vertex-items.ensures.same)
 
 pub loop-i-preserved : goal.loop-i-preserved
 loop-i-preserved c =

@@ -1,14 +1,15 @@
-use mathlib.Core.Path.{refl}
+use mathlib.Core.Path.{refl, sym, ◌∙◌}
 use Rattle.answers.specs.declared.Refusal.TheVariants.{Target, Scissor}
 use mathlib.Core.Path.{◌≡◌}
 use lib.Dec.{lit<}
 use lib.ListN.{length}
 use Rattle.answers.specs.Numbers.{refusal_number}
 use Rattle.answers.proofs.Answered.{refused_test, done_test}
-use Rattle.lists.proofs.Choice.{yes, no, stay, leave}
+use Rattle.lists.proofs.Choice.{yes, no, stay, leave, was_so}
 use Rattle.render_target.specs.Clear.{clear_color_check}
 use Rattle.render_target.specs.Clear.{clear_color_of}
-use Rattle.scissor.proofs.Outcome.{target_is, passed}
+use Rattle.scissor.proofs.Outcome.{target_is}
+use borrow.Author.Tests.{not-false}
 use Rattle.render_target.proofs.clear_color.Goals as goal
 
 pub returns-then-not-target_fits : goal.returns-then-not-target_fits
@@ -24,7 +25,7 @@ returns-then-not-scissor_fits c =
     record { answer = e; colors_after = no _ (refused_test Scissor _ e) refl }
 
 pub clear-requires : goal.clear-requires
-clear-requires c = (lit< tt, (lit< tt, (target_is _ _ _ _ (passed c.target_fits.ensures c.if-not-target_fits.false-raw)).2))
+clear-requires c = (lit< tt, (lit< tt, (target_is _ _ _ _ (sym c.target_fits.ensures ∙ not-false _ c.if-not-target_fits.false-raw)).2))
 
 pub returns : goal.returns
 unfolding clear_color_check clear_color_of

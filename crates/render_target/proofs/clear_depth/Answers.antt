@@ -1,4 +1,4 @@
-use mathlib.Core.Path.{refl, ◌∙◌}
+use mathlib.Core.Path.{refl, sym, ◌∙◌}
 use Rattle.answers.specs.declared.Refusal.TheVariants.{Target, Scissor, Float}
 use mathlib.Core.Path.{◌≡◌}
 use native.Mathlib.Omega.{arith}
@@ -7,11 +7,12 @@ use lib.Ieee.{nan}
 use lib.ListN.{length}
 use Rattle.answers.specs.Numbers.{refusal_number}
 use Rattle.answers.proofs.Answered.{refused_test, done_test}
-use Rattle.lists.proofs.Choice.{yes, no, stay, leave}
+use Rattle.lists.proofs.Choice.{yes, no, stay, leave, was_so}
 use Rattle.render_target.specs.Clear.{clear_depth_check}
 use Rattle.render_target.specs.Clear.{clear_depth_of}
 use Rattle.render_target.proofs.Cleared.{cleared_one}
-use Rattle.scissor.proofs.Outcome.{target_is, passed}
+use Rattle.scissor.proofs.Outcome.{target_is}
+use borrow.Author.Tests.{not-false}
 use Rattle.render_target.proofs.clear_depth.Goals as goal
 
 pub returns-then-not-target_fits : goal.returns-then-not-target_fits
@@ -33,7 +34,7 @@ returns-then-not-is_bounded c =
     record { answer = e; depths_after = no _ (refused_test Float _ e) refl }
 
 pub clear-requires : goal.clear-requires
-clear-requires c = (lit< tt, (lit< tt, omega (arith, (target_is _ _ _ _ (passed c.target_fits.ensures c.if-not-target_fits.false-raw)).3)))
+clear-requires c = (lit< tt, (lit< tt, omega (arith, (target_is _ _ _ _ (sym c.target_fits.ensures ∙ not-false _ c.if-not-target_fits.false-raw)).3)))
 
 pub returns : goal.returns
 unfolding clear_depth_check clear_depth_of

@@ -1,6 +1,7 @@
-use Rattle.std.proofs.Common.{◌∙◌}
-use Rattle.rounding.proofs.Methods.{ceil_is}
+use Rattle.std.proofs.Common.{ap, ◌∙◌}
+use lib.Ieee.{neg}
+use Rattle.rounding.proofs.Floors.{ceil_is}
 use Rattle.rounding.proofs.ceil.Goals as goal
 
 pub returns : goal.returns
-returns c = c.ceil.ensures ∙ ceil_is _
+returns c = ap neg c.floor.ensures ∙ ceil_is _

@@ -1,4 +1,3 @@
-use Rattle.std.proofs.Common.{refl}
 use lib.Ieee as Ieee
 use borrow.Author.Tests.{not-true, not-false}
 use Rattle.lists.proofs.Choice.{yes, no}

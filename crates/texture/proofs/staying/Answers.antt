@@ -1,7 +1,7 @@
 use Rattle.std.proofs.Common.{◌≡◌, ◌∙◌, ◌++◌, ◌-◌, ℕ, List, get_or, drop, add-zero, arith}
 use Rattle.std.proofs.lemmas.List.{get_or-append_right, get_or-drop}
 use Rattle.lists.specs.Lists.{tab}
-use Rattle.lists.proofs.Tables.{tab_none, tab_more, tab_all, length_tab}
+use Rattle.lists.proofs.Tables.{tab_more, tab_all, length_tab}
 use Rattle.levels.specs.declared.MipLevel.{MipLevel}
 use Rattle.levels.specs.Levels.{absent}
 use Rattle.texture.specs.Define.{stay_at, stay}
@@ -12,9 +12,6 @@ next_is : (f : ℕ → MipLevel) (l : List MipLevel) (i : ℕ) → get_or (tab i
 next_is f l i =
     let z : i - i ≡ 0 = omega arith in
     get_or-append_right (tab i f) (drop i l) i i absent (length_tab f i) (omega arith) ∙ rw (z, get_or-drop i l 0 absent, add-zero)
-
-pub loop-i-init : goal.loop-i-init
-loop-i-init c = tab_none _ _
 
 pub loop-i-preserved : goal.loop-i-preserved
 unfolding stay_at

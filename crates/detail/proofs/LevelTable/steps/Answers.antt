@@ -21,20 +21,20 @@ float_to_bits-bits c = no_nan _ c.requires.above_one
 pub overflow_sub-exponent : goal.overflow_sub-exponent
 overflow_sub-exponent c = (read c.args.q (held c.well_formed.1.0.1) c.requires.above_one c.requires.finite).high
 
-pub float_from_bits-m : goal.float_from_bits-m
-float_from_bits-m c = significand_number _ (mod-lt _ (pow_pos 52))
+pub float_from_bits-s : goal.float_from_bits-s
+float_from_bits-s c = significand_number _ (mod-lt _ (pow_pos 52))
 
 pub overflow_mul-result : goal.overflow_mul-result
 overflow_mul-result c = omega (arith, to_bits-lt binary64 c.args.q (held c.well_formed.1.0.1))
 
-pub step_of-requires : goal.step_of-requires
-step_of-requires c =
+pub invariant_of-s : goal.invariant_of-s
+invariant_of-s c =
     let t = to_bits binary64 c.args.q % 2 ^ 52 in
     let h : t < 2 ^ 52 = mod-lt (to_bits binary64 c.args.q) (pow_pos 52) in
     let v = significand t h in
     let m = of_bits binary64 (t + field_of_one) in
     let o = from_one m t h v in
-    record { positive = positive_of_value m ((t + 2 ^ 52) * 2 ^ 1022) (2 ^ 1074) v (some t); at_least_one = o.0; below_two = o.1; exponent = omega arith }
+    record { positive = positive_of_value m ((t + 2 ^ 52) * 2 ^ 1022) (2 ^ 1074) v (some t); at_least_one = o.0; below_two = o.1; twelve = omega arith }
 
 pub overflow_add-result : goal.overflow_add-result
 overflow_add-result c = omega (arith, to_bits-lt binary64 c.args.q (held c.well_formed.1.0.1), c.step_of.ensures.0)

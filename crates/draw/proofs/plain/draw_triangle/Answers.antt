@@ -1,15 +1,24 @@
-use Rattle.std.proofs.Common.{sym, ap, ◌∙◌}
+use Rattle.std.proofs.Common.{refl, sym, ◌∙◌}
 use Rattle.std.proofs.lemmas.Result.{err_from_is_err_and}
-use Rattle.draw.proofs.Unstaged.{checked_target, drew_unstaged, refused_unstaged}
+use Rattle.lists.proofs.Choice.{yes, no}
+use Rattle.answers.specs.declared.Refusal.TheVariants.{Vertex}
+use Rattle.draw.proofs.Unstaged.{check_vertices, check_refused, checked_target, drew_unstaged, refused_unstaged}
 use Rattle.draw.proofs.plain.draw_triangle.Goals as goal
 
 pub draw_checked-requires : goal.draw_checked-requires
-draw_checked-requires c = checked_target c.args.width c.args.height _ _ c.args.state c.args.a c.args.b c.args.c (sym c.in_ok-check.ensures)
+draw_checked-requires c =
+    let passed = yes _ (sym c.vertices_fit.ensures ∙ c.if-not-vertices_fit.false) refl ∙ check_vertices c.args.width c.args.height _ _ c.args.state c.args.t.a c.args.t.b c.args.t.c (sym c.in_ok-check_settings.ensures) in
+    checked_target c.args.width c.args.height _ _ c.args.state c.args.t.a c.args.t.b c.args.t.c (sym passed)
 
 pub returns : goal.returns
-returns c = drew_unstaged c.args.width c.args.height c.args.state c.args.a c.args.b c.args.c _ _ (sym c.in_ok-check.ensures) c.draw_checked.ensures
+returns c =
+    let passed = yes _ (sym c.vertices_fit.ensures ∙ c.if-not-vertices_fit.false) refl ∙ check_vertices c.args.width c.args.height _ _ c.args.state c.args.t.a c.args.t.b c.args.t.c (sym c.in_ok-check_settings.ensures) in
+    drew_unstaged c.args.width c.args.height c.args.state c.args.t.a c.args.t.b c.args.t.c _ _ (sym passed) c.draw_checked.ensures
 
-pub returns-in_err-check : goal.returns-in_err-check
-returns-in_err-check c =
+pub returns-then-not-vertices_fit : goal.returns-then-not-vertices_fit
+returns-then-not-vertices_fit c = refused_unstaged c.args.width c.args.height c.args.state c.args.t.a c.args.t.b c.args.t.c _ _ Vertex (no _ (sym c.vertices_fit.ensures ∙ c.if-not-vertices_fit.true) refl ∙ check_vertices c.args.width c.args.height _ _ c.args.state c.args.t.a c.args.t.b c.args.t.c (sym c.in_ok-check_settings.ensures))
+
+pub returns-in_err-check_settings : goal.returns-in_err-check_settings
+returns-in_err-check_settings c =
     let p = err_from_is_err_and c.from_residual.result c.from_residual.ensures.1 in
-    rw (p.1, p.2) (refused_unstaged c.args.width c.args.height c.args.state c.args.a c.args.b c.args.c _ _ c.in_err-check.field-0.0 c.in_err-check.ensures)
+    rw (p.1, p.2) (refused_unstaged c.args.width c.args.height c.args.state c.args.t.a c.args.t.b c.args.t.c _ _ c.in_err-check_settings.field-0.0 (check_refused c.args.width c.args.height _ _ c.args.state c.args.t.a c.args.t.b c.args.t.c c.in_err-check_settings.field-0.0 c.in_err-check_settings.ensures))

@@ -8,15 +8,15 @@ use Rattle.levels.proofs.Stored.any_overlap.Goals as goal
 pub loop-other-init : goal.loop-other-init
 loop-other-init c = rw (take_rest c.args.self.levels c.args.from) refl
 
-pub levels_overlap-requires : goal.levels_overlap-requires
-levels_overlap-requires c =
+pub overlap-requires : goal.overlap-requires
+overlap-requires c =
     (c.requires.1, rw (take_rest c.args.self.levels c.args.from, get_or-drop c.args.from c.args.self.levels c.loop-other.other-index absent) (fits_at _ _ c.args.self.fit (c.args.from + c.loop-other.other-index)))
 
-pub returns-then-levels_overlap : goal.returns-then-levels_overlap
-returns-then-levels_overlap c = sym (any_hit (overlaps c.args.m) _ absent c.loop-other.other-index c.loop-other-test.true (sym c.levels_overlap.ensures ∙ c.if-levels_overlap.true)) ∙ c.loop-other.invariant
+pub returns-then-overlap : goal.returns-then-overlap
+returns-then-overlap c = sym (any_hit (overlaps c.args.m) _ absent c.loop-other.other-index c.loop-other-test.true (sym c.overlap.ensures ∙ c.if-overlap.true)) ∙ c.loop-other.invariant
 
 pub loop-other-preserved : goal.loop-other-preserved
-loop-other-preserved c = any_on (overlaps c.args.m) _ absent c.loop-other.other-index c.loop-other-test.true (sym c.levels_overlap.ensures ∙ c.if-levels_overlap.false) ∙ c.loop-other.invariant
+loop-other-preserved c = any_on (overlaps c.args.m) _ absent c.loop-other.other-index c.loop-other-test.true (sym c.overlap.ensures ∙ c.if-overlap.false) ∙ c.loop-other.invariant
 
 pub returns : goal.returns
 returns c = sym (any_end (overlaps c.args.m) _ absent c.loop-other.other-index (omega arith)) ∙ c.loop-other.invariant

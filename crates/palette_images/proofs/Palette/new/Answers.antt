@@ -4,13 +4,10 @@ use Prim.Native.Nat.{◌^◌}
 use native.Mathlib.Omega.{arith}
 use lib.ListN.{get_or-append}
 use Rattle.lists.specs.Lists.{tab}
-use Rattle.lists.proofs.Tables.{tab_none, tab_more, length_tab, get_or_tab}
+use Rattle.lists.proofs.Tables.{tab_more, length_tab, get_or_tab}
 use Rattle.texels.specs.Texels.{nth_texel}
 use Rattle.palette_images.specs.Paletted.{index_bits}
 use Rattle.palette_images.proofs.Palette.new.Goals as goal
-
-pub loop-i-init : goal.loop-i-init
-loop-i-init c = tab_none _ _
 
 pub loop-i-preserved : goal.loop-i-preserved
 unfolding nth_texel

@@ -15,5 +15,5 @@ unfolding entry_at index_at
 loop-x-preserved c =
     let a = c.args in
     let bits = index_bits a.self.now.bits in
-    rw (c.put.ensures, c.loop-x.invariant, c.index_in-i.ensures.0, c.bits-bits.ensures)
+    rw (c.put4.ensures, c.loop-x.invariant, c.index_in.ensures.0, c.bits-bits.ensures)
     (row_more 4 (entry_at bits a.self.now.entries a.s.now a.at) (entry_four bits a.self.now.entries a.s.now a.at) a.out.now a.to c.loop-x.x (omega arith))

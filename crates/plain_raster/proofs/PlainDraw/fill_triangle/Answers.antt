@@ -1,7 +1,7 @@
 use Rattle.plain_raster.proofs.PlainDraw.fill_triangle.Goals as goal
 
-pub returns-then-is_solid : goal.returns-then-is_solid
-returns-then-is_solid c = record { drawn = c.fill.ensures.drawn; count = c.fill.ensures.count }
+pub returns-then-is_solid-clause-drawn : goal.returns-then-is_solid-clause-drawn
+returns-then-is_solid-clause-drawn c = c.fill.ensures.drawn
 
-pub returns : goal.returns
-returns c = record { drawn = c.fill-2.ensures.drawn; count = c.fill-2.ensures.count }
+pub returns-clause-drawn : goal.returns-clause-drawn
+returns-clause-drawn c = c.fill-2.ensures.drawn

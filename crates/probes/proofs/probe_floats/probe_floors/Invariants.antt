@@ -1,5 +1,4 @@
-use Prim.Native.Nat.{◌-◌}
-use lib.ListN.{length}
+use Rattle.std.proofs.Common.{length}
 use Rattle.probes.proofs.Each.{floor_at}
 use Rattle.probes.proofs.Mapped.{Mapped}
 use Rattle.probes.proofs.probe_floats.probe_floors.Given as goal

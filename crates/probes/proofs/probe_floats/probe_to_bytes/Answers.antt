@@ -1,13 +1,6 @@
-use Prim.Native.Nat.{◌-◌}
-use Rattle.probes.proofs.Each.{byte_at}
-use Rattle.probes.proofs.Mapped.{mapped_none, mapped_more, mapped_all}
+use Rattle.std.proofs.Common.{arith}
+use Rattle.probes.proofs.Mapped.{mapped_more}
 use Rattle.probes.proofs.probe_floats.probe_to_bytes.Goals as goal
 
-pub loop-i-init : goal.loop-i-init
-loop-i-init c = mapped_none (byte_at c.args.src.now) c.requires
-
 pub loop-i-preserved : goal.loop-i-preserved
-loop-i-preserved c = mapped_more c.loop-i.invariant c.loop-i-test.true c.to_byte.ensures
-
-pub returns : goal.returns
-returns c = mapped_all c.loop-i.invariant c.loop-i-test.false
+loop-i-preserved c = mapped_more c.loop-i.invariant (omega (arith, c.loop-i-test.true, c.loop-i.invariant.kept)) c.to_byte.ensures

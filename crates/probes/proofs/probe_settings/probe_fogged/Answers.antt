@@ -1,8 +1,8 @@
 use mathlib.Core.Path.{ap, ◌∙◌}
 use Rattle.fragment.specs.Fragment.{fogged_of, fog_factor_of}
-use Rattle.probes.specs.Settings.{channels_of}
+use Rattle.settings.specs.Channels.{channels_of}
 use Rattle.probes.proofs.probe_settings.probe_fogged.Goals as goal
 
 pub returns : goal.returns
 unfolding fogged_of fog_factor_of
-returns c = c.put.ensures ∙ ap channels_of (rw (c.fogged.ensures, c.color-c.ensures, c.color.ensures))
+returns c = c.from-2.ensures ∙ ap channels_of (rw (c.fogged.ensures, c.from-s.ensures, c.from.ensures))

@@ -1,4 +1,4 @@
 use Rattle.raster.proofs.StagedDraw.fill_triangle.Goals as goal
 
-pub returns : goal.returns
-returns c = record { drawn = c.fill.ensures.drawn; count = c.fill.ensures.count }
+pub returns-clause-drawn : goal.returns-clause-drawn
+returns-clause-drawn c = c.fill.ensures.drawn

@@ -1,0 +1,10 @@
+use mir.Syntax.{w64}
+use mir.Val.{SFits}
+use Rattle.std.proofs.Common.{rules}
+use Rattle.coords.proofs.Quick.{axis_is}
+use Rattle.coords.proofs.Side.axis.Goals as goal
+
+pub returns : goal.returns
+returns c =
+    let f : SFits w64 c.floored-floor.result.whole = search rules in
+    axis_is c.args.self.wrap c.args.v c.length.result c.args.self.size _ _ _ _ c.length.ensures c.floored-floor.ensures f c.texel-first.ensures c.next.ensures

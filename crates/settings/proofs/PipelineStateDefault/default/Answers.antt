@@ -1,0 +1,4 @@
+use Rattle.settings.proofs.PipelineStateDefault.default.Goals as goal
+
+pub returns : goal.returns
+returns c = c.new.ensures
