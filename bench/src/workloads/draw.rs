@@ -24,7 +24,7 @@ pub fn workloads() -> Vec<Box<dyn Workload>> {
         Box::new(draw) as Box<dyn Workload>
     };
     let plain = |name, settings| Box::new(Draw::new(name, Unit::Pixel, vec![(whole(settings), screen(1.0))], None)) as Box<dyn Workload>;
-    let small = |name, pixels| Box::new(Draw::new(name, Unit::Triangle, vec![(whole(flat.clone()), small(pixels))], None)) as Box<dyn Workload>;
+    let small = |name, pixels| Box::new(Draw::new(name, Unit::Triangle, vec![(whole(flat.clone()), small_triangles(pixels))], None)) as Box<dyn Workload>;
     vec![
         plain("draw_flat", flat.clone()),
         plain("draw_smooth", smooth.clone()),
@@ -35,6 +35,7 @@ pub fn workloads() -> Vec<Box<dyn Workload>> {
         plain("draw_fogged", fogged),
         small("draw_small_12", 12),
         small("draw_small_184", 184),
+        Box::new(Draw::new("draw_small_textured", Unit::Triangle, vec![(whole(flat.clone()), small_triangles(12))], Some((0x2600, 0x2600)))),
         Box::new(Draw::new("draw_clipped", Unit::Pixel, vec![(whole(smooth.clone()), crossing())], None)),
         Box::new(Draw::new("draw_panels", Unit::Pixel, panels(&flat), None)),
     ]
@@ -97,12 +98,14 @@ impl Workload for Draw {
         self.name
     }
 
-    /// Above 1 where the compiler of today's kit leaves the port behind the Rust (docs/BENCHMARKS.md).
+    /// Above 1 where the compiler of today's kit leaves the port behind the Rust (docs/BENCHMARKS.md). A small textured draw reads four
+    /// records from the guest's memory and checks what it samples, where the Rust has its texture at hand.
     fn bar(&self) -> Option<f64> {
         match self.name {
             "draw_blended" => Some(1.25),
             "draw_nearest" | "draw_clipped" => Some(1.15),
             "draw_fogged" | "draw_small_12" => Some(1.1),
+            "draw_small_textured" => Some(1.7),
             _ => BAR,
         }
     }
@@ -228,11 +231,11 @@ fn pixels(target: &mut RenderTarget, triangle: &[Corner; 3]) -> usize {
     oracle::raster::draw_triangle(target, &state, &|_, _, _, _, _, _, _| None, &[], triangle.each_ref().map(vertex))
 }
 
-/// 960 triangles of so many pixels each.
-fn small(wanted: usize) -> Vec<[Corner; 3]> {
+/// 960 triangles of so many pixels each, a texel to a pixel.
+fn small_triangles(wanted: usize) -> Vec<[Corner; 3]> {
     let at = |x: f32, y: f32, legs: (f32, f32)| {
         let color = [x / 800.0, y / 480.0, 0.5, 1.0];
-        let place = |dx: f32, dy: f32| corner(x + dx, y + dy, 1.0, color, [0.0, 0.0]);
+        let place = |dx: f32, dy: f32| corner(x + dx, y + dy, 1.0, color, [(x + dx) / SIDE as f32, (y + dy) / SIDE as f32]);
         [place(0.3, 0.2), place(0.3 + legs.0, 0.6), place(0.8, 0.2 + legs.1)]
     };
     let all = |legs| (0..960).map(move |i| at((i % 40) as f32 * 19.0, (i / 40) as f32 * 19.0, legs));

@@ -2,7 +2,7 @@
 use mathlib.Core.Path.{◌≡◌, refl, sym, ap, ◌∙◌}
 use mathlib.Core.List.{List}
 use Prim.Native.Nat.{ℕ, zero, suc, ◌+◌, ◌*◌, ◌/◌, ◌%◌, ◌≤◌, ◌<◌}
-use native.Mathlib.Nat.{suc-mul, zero-mul, add-zero, zero-add, mul_assoc}
+use native.Mathlib.Nat.{suc-mul, zero-mul, add-zero, zero-add, mul_assoc, mul-le-mul_right}
 use native.Mathlib.Decide.{dec_lt}
 use native.Mathlib.Omega.{arith}
 use borrow.Author.Tests.{le-leb, lt-leb}
@@ -193,3 +193,8 @@ few_bytes Dxt5 = omega arith
 few_bytes AtcRgb = omega arith
 few_bytes AtcExplicit = omega arith
 few_bytes AtcInterpolated = omega arith
+
+-- a block of the image is one of its bytes
+pub block_room : {y h x w : ℕ} (bytes : ℕ) → y < h → x < w → (y * w + x) * bytes + bytes ≤ h * w * bytes
+block_room {y} {h} {x} {w} bytes p q =
+    omega (arith, suc-mul (y * w + x) bytes, mul-le-mul_right bytes (digits_lt p q))

@@ -58,10 +58,10 @@ impl Block {
     fn is_dxt(self) -> bool
         ensures { result ≡ is_dxt self }
     {
-        match self {
-            Block::Dxt1Rgb | Block::Dxt1Rgba | Block::Dxt3 | Block::Dxt5 => true,
-            Block::AtcRgb | Block::AtcExplicit | Block::AtcInterpolated => false,
-        }
+        matches!(
+            self,
+            Block::Dxt1Rgb | Block::Dxt1Rgba | Block::Dxt3 | Block::Dxt5
+        )
     }
 
     // Whether a block has four colours, whatever the order of its endpoints.

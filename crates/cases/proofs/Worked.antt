@@ -15,5 +15,5 @@ use Rattle.scissor.specs.Scissor.{in_box}
 use Rattle.cases.specs.Cases.{holds, cases}
 
 pub worked : all holds cases ≡ true
-unfolding all holds cases tab flat image nth_texel byte_format format_of plain_image dxt_palette atc_palette chosen dxt atc dxt1_alpha_of dxt1_alpha explicit_alpha alpha_palette alpha_selectors interpolated_alpha opaque block_texel texel_in_blocks block_image palette_of compressed_of size_of compressed_image known_check empty_check compressed_check complete half single follows climb top_of in_box
+unfolding holds cases tab flat image nth_texel byte_format format_of plain_image dxt_palette atc_palette chosen dxt atc dxt1_alpha_of dxt1_alpha explicit_alpha alpha_palette alpha_selectors interpolated_alpha opaque block_texel texel_in_blocks block_image palette_of compressed_of size_of compressed_image known_check empty_check compressed_check complete half single follows climb top_of in_box
 worked = refl

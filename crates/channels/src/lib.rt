@@ -7,6 +7,7 @@ ghost use Rattle.floats.specs.Num.{zero32};
 ghost use Rattle.channels.specs.Channel.{unit_of, byte_of, round_byte_of, held_of};
 
 // v / 255
+// Kept: sampler::part_weight divides by 256; one function for both would take the divisor and say less. (2a)
 #[tactic(auto, unfolding(crate::specs::Channel::unit_of))]
 pub fn to_unit(v: u8) -> f32
     ensures { result ≡ unit_of v }
@@ -15,21 +16,20 @@ pub fn to_unit(v: u8) -> f32
 }
 
 // x where it is above 0, else 0: one instruction.
-// Kept: tried as x.max(0.0): std promises either of two equal numbers, so -0.0 might stay, which held_of makes 0, and `returns` stays open (4c, 4d)
+// Kept: with x.max(0.0) std might leave -0.0, which held_of makes 0; floats::max gives the first of two zeros (4d)
 fn from_zero(x: f32) -> f32
     ensures { result ≡ cond (Ieee.lt zero32 x) x zero32 }
 {
-    if x > 0.0 { x } else { 0.0 }
+    floats::max(0.0, x)
 }
 
 // x within 0 and top, a NaN 0.
-// Kept: tried as y.min(top): `returns` stays open, since it asks that two equal floats above 0 are one (4c, 4d)
+// Kept: floats::min and no y.min(top), of which std leaves open which of two equal numbers it is (4c, 4d)
 fn held(x: f32, top: f32) -> f32
     requires { Ieee.lt zero32 top ≡ true }
     ensures { result ≡ held_of x top }
 {
-    let y = from_zero(x);
-    if y < top { y } else { top }
+    floats::min(top, from_zero(x))
 }
 
 // (v.clamp(0.0, 1.0) * 255.0 + 0.5) as u8

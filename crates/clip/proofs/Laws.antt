@@ -2,10 +2,8 @@
 use mathlib.Core.Bool.{Bool, true, false, cond, beq}
 use mathlib.Core.Path.{◌≡◌, refl, sym, ◌∙◌}
 use mathlib.Core.List.{List, [], ◌∷◌, ◌++◌}
-use Prim.Native.Nat.{ℕ, zero, suc, ◌+◌, ◌*◌, ◌/◌, ◌%◌, ◌≤◌, ◌<◌}
-use native.Mathlib.Nat.{mod-eq_of_lt, mod_self}
+use Prim.Native.Nat.{ℕ, zero, suc, ◌+◌, ◌*◌, ◌/◌, ◌≤◌, ◌<◌}
 use native.Mathlib.Numerals.{add-one}
-use native.Mathlib.Decide.{dec_lt}
 use native.Mathlib.Omega.{arith}
 use Rattle.std.proofs.lemmas.Grind.{common_steps}
 use lib.Dec.{eqb, ltb}
@@ -20,21 +18,20 @@ use lib.Ieee as Ieee
 use lib.Ieee.{Float}
 use Rattle.clip.specs.Clip.{differ, cross, kept, crossing, head_or, walk, walked, insides, clip_plane, clip_each, clipped}
 
--- ---- the corner after corner i
+-- ---- the corner after corner i, or the first
 
-next_of : (l : List Vertex) (d : Vertex) (i : ℕ) → i < length l → Dec (i + 1 < length l) → head_or (get_or l 0 d) (drop (i + 1) l) ≡ get_or l ((i + 1) % length l) d
+next_of : (l : List Vertex) (first : Vertex) (i : ℕ) → head_or first (drop i l) ≡ get_or l i first
 unfolding head_or
-next_of l d i h (yes m) = rw (drop-cons l (i + 1) d m, mod-eq_of_lt m)
-next_of l d i h (no m) =
-    let e : i + 1 ≡ length l = omega arith in
-    let z : length l ≤ i + 1 = omega arith in
-    rw (drop_of_length-le l z, e, mod_self (length l))
+next_of [] first zero = refl
+next_of [] first (suc i) = refl
+next_of (a ∷ l) first zero = refl
+next_of (a ∷ l) first (suc i) = next_of l first i
 
 module _ (p : Plane) (l : List Vertex) (d : Vertex) (i : ℕ) (h : i < length l) where
   walk_on : walk p (get_or l 0 d) (drop i l)
-      ≡ kept p (get_or l i d) ++ (crossing p (get_or l i d) (get_or l ((i + 1) % length l) d) ++ walk p (get_or l 0 d) (drop (i + 1) l))
+      ≡ kept p (get_or l i d) ++ (crossing p (get_or l i d) (get_or l (i + 1) (get_or l 0 d)) ++ walk p (get_or l 0 d) (drop (i + 1) l))
   unfolding walk
-  walk_on = rw (drop-cons l i d h, ← next_of l d i h (dec_lt (i + 1) (length l)), add-one)
+  walk_on = rw (drop-cons l i d h, ← next_of l (get_or l 0 d) (i + 1), add-one)
 
 -- what is left of the walk at corner i
 unfoldable pub rest : Plane → List Vertex → ℕ → List Vertex
@@ -62,7 +59,7 @@ rest_next p [] d i h = absurd (omega arith)
 rest_next p (a ∷ l) d i h = refl
 
 pub rest_on : (p : Plane) (l : List Vertex) (d : Vertex) (i : ℕ) → i < length l
-    → rest p l i ≡ kept p (get_or l i d) ++ (crossing p (get_or l i d) (get_or l ((i + 1) % length l) d) ++ rest p l (i + 1))
+    → rest p l i ≡ kept p (get_or l i d) ++ (crossing p (get_or l i d) (get_or l (i + 1) (get_or l 0 d)) ++ rest p l (i + 1))
 rest_on p l d i h = rest_walk p l d i h ∙ walk_on p l d i h ∙ rw (rest_next p l d i h)
 
 -- ---- how many

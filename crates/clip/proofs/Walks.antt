@@ -1,7 +1,7 @@
 -- The loop over a polygon's edges: the corners put so far and what is left of the walk make the whole. Assumes nothing.
 use mathlib.Core.Path.{◌≡◌, sym, ap, ◌∙◌}
 use mathlib.Core.List.{List, [], ◌++◌, append-nil, append_assoc}
-use Prim.Native.Nat.{ℕ, ◌+◌, ◌%◌, ◌≤◌, ◌<◌}
+use Prim.Native.Nat.{ℕ, ◌+◌, ◌≤◌, ◌<◌}
 use native.Mathlib.Omega.{arith}
 use lib.ListN.{length, get_or, length-append}
 use Rattle.vertices.specs.declared.Vertex.{Vertex}
@@ -21,7 +21,7 @@ pub ends : {p : Plane} {l done : List Vertex} {i : ℕ} → Walking p l done i �
 ends {p} {l} {done} {i} w h = sym (append-nil done) ∙ (rw (rest_end p l i h) at w.whole)
 
 -- one edge, from corner i to the next
-module _ {p : Plane} {l done : List Vertex} {i : ℕ} (w : Walking p l done i) (few : length l ≤ 28) (h : i < length l) (a b : Vertex) (ea : a ≡ get_or l i past) (eb : b ≡ get_or l ((i + 1) % length l) past) where
+module _ {p : Plane} {l done : List Vertex} {i : ℕ} (w : Walking p l done i) (few : length l ≤ 28) (h : i < length l) (a b : Vertex) (ea : a ≡ get_or l i past) (eb : b ≡ get_or l (i + 1) (get_or l 0 past)) where
   opened : done ++ (kept p a ++ (crossing p a b ++ rest p l (i + 1))) ≡ walked p l
   opened =
       let r : rest p l i ≡ kept p a ++ (crossing p a b ++ rest p l (i + 1)) = rw (ea, eb) (rest_on p l past i h) in

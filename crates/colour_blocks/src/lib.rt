@@ -19,42 +19,11 @@ fn mix3(k: u32, n: u32, a: [u8; 3], b: [u8; 3]) -> [u8; 3]
     array::from_fn(|i| mix(k, n, a[i], b[i]))
 }
 
-// Whether there are four colours, and not three and black.
-fn has_four(always: bool, c0: u32, c1: u32) -> bool
-    ensures { result ≡ cond always true (ltb c1 c0) }
-{
-    always || c0 > c1
-}
-
-fn dxt_palette(always: bool, c0: u32, c1: u32) -> [[u8; 3]; 4]
-    ensures { result ≡ dxt_palette always c0 c1 }
-{
-    let e0 = colour::<6>(c0);
-    let e1 = colour::<6>(c1);
-    if has_four(always, c0, c1) {
-        [e0, e1, mix3(1, 3, e0, e1), mix3(2, 3, e0, e1)]
-    } else {
-        [e0, e1, mix3(1, 2, e0, e1), [0, 0, 0]]
-    }
-}
-
 // Each channel less a quarter of another, at least 0.
 fn lowered3(a: [u8; 3], b: [u8; 3]) -> [u8; 3]
     ensures { result ≡ less_quarter3 a b }
 {
     array::from_fn(|i| a[i].saturating_sub(b[i] / 4))
-}
-
-fn atc_palette(c0: u32, c1: u32) -> [[u8; 3]; 4]
-    ensures { result ≡ atc_palette c0 c1 }
-{
-    let e0 = colour::<5>(c0);
-    let e1 = colour::<6>(c1);
-    if c0 < 32768 {
-        [e0, mix3(3, 8, e0, e1), mix3(5, 8, e0, e1), e1]
-    } else {
-        [[0, 0, 0], lowered3(e0, e1), e0, e1]
-    }
 }
 
 // The eight bytes of a block's colours: two endpoints, then sixteen selectors of two bits.
@@ -78,15 +47,67 @@ impl From<&[u8; 8]> for Colours {
     }
 }
 
-fn chosen(palette: [[u8; 3]; 4], bits: u32) -> [[u8; 3]; 16]
-    ensures { result ≡ chosen palette bits }
-{
-    array::from_fn(
-        |i: usize| -> [u8; 3]
-            requires { i < 16 }
-            ensures { result ≡ get_or palette (selector 2 bits i) [] }
-        { palette[selector::<2>(bits, i) as usize] },
-    )
+impl Colours {
+    // Whether there are four colours, and not three and black.
+    fn has_four(self, always: bool) -> bool
+        ensures { result ≡ cond always true (ltb self.c1 self.c0) }
+    {
+        always || self.c0 > self.c1
+    }
+
+    fn dxt_palette(self, always: bool) -> [[u8; 3]; 4]
+        ensures { result ≡ dxt_palette always self.c0 self.c1 }
+    {
+        let e0 = colour::<6>(self.c0);
+        let e1 = colour::<6>(self.c1);
+        if self.has_four(always) {
+            [e0, e1, mix3(1, 3, e0, e1), mix3(2, 3, e0, e1)]
+        } else {
+            [e0, e1, mix3(1, 2, e0, e1), [0, 0, 0]]
+        }
+    }
+
+    fn atc_palette(self) -> [[u8; 3]; 4]
+        ensures { result ≡ atc_palette self.c0 self.c1 }
+    {
+        let e0 = colour::<5>(self.c0);
+        let e1 = colour::<6>(self.c1);
+        if self.c0 < 32768 {
+            [e0, mix3(3, 8, e0, e1), mix3(5, 8, e0, e1), e1]
+        } else {
+            [[0, 0, 0], lowered3(e0, e1), e0, e1]
+        }
+    }
+
+    // Each texel's colour, by its selector.
+    fn chosen(self, palette: [[u8; 3]; 4]) -> [[u8; 3]; 16]
+        ensures { result ≡ chosen palette self.bits }
+    {
+        let bits = self.bits;
+        array::from_fn(
+            |i: usize| -> [u8; 3]
+                requires { i < 16 }
+                ensures { result ≡ get_or palette (selector 2 bits i) [] }
+            { palette[selector::<2>(bits, i) as usize] },
+        )
+    }
+
+    #[tactic(auto, unfolding(crate::specs::ColourBlocks::dxt1_alpha_of))]
+    fn dxt1_alpha(self, sel: u32) -> u8
+        ensures { result ≡ dxt1_alpha_of self.c0 self.c1 sel }
+    {
+        if self.c0 <= self.c1 && sel == 3 {
+            0
+        } else {
+            255
+        }
+    }
+
+    fn dxt1_alphas(self) -> [u8; 16]
+        ensures { result ≡ tab 16 (λ i. dxt1_alpha_of self.c0 self.c1 (selector 2 self.bits i)) }
+    {
+        array::from_fn(|i| self.dxt1_alpha(selector::<2>(self.bits, i)))
+    }
 }
 
 // Kept: two lines each, the palette and the choice from it; one function would take the palette's maker as a closure. (2b)
@@ -94,8 +115,8 @@ fn chosen(palette: [[u8; 3]; 4], bits: u32) -> [[u8; 3]; 16]
 pub fn dxt_rgb_block(always: bool, block: &[u8; 8]) -> [[u8; 3]; 16]
     ensures { result ≡ dxt always block.now 0 }
 {
-    let Colours { c0, c1, bits } = Colours::from(block);
-    chosen(dxt_palette(always, c0, c1), bits)
+    let colours = Colours::from(block);
+    colours.chosen(colours.dxt_palette(always))
 }
 
 // Kept: as dxt_rgb_block. (2b)
@@ -103,27 +124,13 @@ pub fn dxt_rgb_block(always: bool, block: &[u8; 8]) -> [[u8; 3]; 16]
 pub fn atc_rgb_block(block: &[u8; 8]) -> [[u8; 3]; 16]
     ensures { result ≡ atc block.now 0 }
 {
-    let Colours { c0, c1, bits } = Colours::from(block);
-    chosen(atc_palette(c0, c1), bits)
-}
-
-#[tactic(auto, unfolding(crate::specs::ColourBlocks::dxt1_alpha_of))]
-fn dxt1_alpha(c0: u32, c1: u32, sel: u32) -> u8
-    ensures { result ≡ dxt1_alpha_of c0 c1 sel }
-{
-    if c0 <= c1 && sel == 3 { 0 } else { 255 }
-}
-
-fn dxt1_alphas(c0: u32, c1: u32, bits: u32) -> [u8; 16]
-    ensures { result ≡ tab 16 (λ i. dxt1_alpha_of c0 c1 (selector 2 bits i)) }
-{
-    array::from_fn(|i| dxt1_alpha(c0, c1, selector::<2>(bits, i)))
+    let colours = Colours::from(block);
+    colours.chosen(colours.atc_palette())
 }
 
 #[tactic(auto, unfolding(crate::specs::ColourBlocks::dxt1_alpha))]
 pub fn dxt1_alpha_block(block: &[u8; 8]) -> [u8; 16]
     ensures { result ≡ dxt1_alpha block.now 0 }
 {
-    let Colours { c0, c1, bits } = Colours::from(block);
-    dxt1_alphas(c0, c1, bits)
+    Colours::from(block).dxt1_alphas()
 }

@@ -4,6 +4,7 @@
 ghost use Rattle.std.specs.Prelude.{◌≡◌, ◌*◌, ◌≤◌, length, ok_or};
 ghost use Rattle.answers.specs.Results.{answer_number};
 ghost use Rattle.answers.specs.declared.Refusal.TheVariants.{Format};
+ghost use Rattle.texels.specs.Lent.{Same};
 ghost use Rattle.compressed.specs.Compressed.{compressed_of, size_of, size_check, sized_bytes, size_answered, compressed_image, known_check, known_left, empty_check, compressed_check, compressed_left};
 
 use answers::Refusal;
@@ -11,6 +12,7 @@ use block_images::{block_count, decode_blocks};
 use blocks::Block;
 use consts::*;
 use palette_images::{IndexBits, decode_paletted};
+use texels::image::Image;
 use texels::{Sides, TexelFormat};
 
 // What a compressed format's code stands for: blocks, or a palette, by the bits of an index and the kind of an entry.
@@ -63,13 +65,16 @@ impl Compressed {
         }
     }
 
-    fn decode_image(self, s: &[u8], sides: Sides, out: &mut [u8])
-        requires { (size_of (Some self) sides.w sides.h ≤ length s.now) × (length out.old ≡ sides.h * sides.w * 4) }
-        ensures { out.new ≡ compressed_image (Some self) sides.w sides.h s.now }
+    // Kept: its self is a format, and that of the two of palette_images a palette. (5c)
+    fn decode_image(self, s: &[u8], image: &mut Image)
+        requires { size_of (Some self) image.old.sides.w image.old.sides.h ≤ length s.now }
+        ensures drawn { image.new.out.now ≡ compressed_image (Some self) image.old.sides.w image.old.sides.h s.now }
+        // Kept: a fact of the type cannot speak of the image as it was. (5b)
+        ensures same { Same image.old image.new }
     {
         match self {
-            Compressed::Blocks(b) => decode_blocks(b, s, out, sides),
-            Compressed::Palette(bits, t) => decode_paletted(bits, t, s, out, sides),
+            Compressed::Blocks(b) => decode_blocks(b, s, image),
+            Compressed::Palette(bits, t) => decode_paletted(bits, t, s, image),
         }
     }
 
@@ -83,7 +88,8 @@ impl Compressed {
         if out.len() != sides.texels() * 4 {
             return Err(Refusal::Output);
         }
-        self.decode_image(s, sides, out);
+        let mut image = Image { out, sides };
+        self.decode_image(s, &mut image);
         Ok(())
     }
 }

@@ -1,1 +1,1 @@
-pub mod Bits
+pub mod Usable

@@ -19,10 +19,10 @@ unfoldable pub edge_of : ScreenVertex → ScreenVertex → Float → Float → F
 edge_of p q sx sy r = ((q.x ⊖ p.x) ⊗ (sy ⊖ p.y) ⊖ (q.y ⊖ p.y) ⊗ (sx ⊖ p.x)) ⊗ r
 
 -- w0, w1 and w2 = 1 - w0 - w1
-unfoldable pub weights_of : Raster → ℕ → ℕ → PerCorner
+unfoldable pub weights_of : Raster → ℕ → ℕ → PerCorner Float
 weights_of t px py =
-    let w0 = edge_of t.b t.c (centre_of px) (centre_of py) t.inv_area in
-    let w1 = edge_of t.c t.a (centre_of px) (centre_of py) t.inv_area in
+    let w0 = edge_of t.corners.b t.corners.c (centre_of px) (centre_of py) t.inv_area in
+    let w1 = edge_of t.corners.c t.corners.a (centre_of px) (centre_of py) t.inv_area in
     per_corner w0 w1 (one32 ⊖ w0 ⊖ w1)
 
 -- EDGE_EPS: -1e-6
@@ -30,31 +30,31 @@ abbrev pub edge_eps : Float
 edge_eps = Ieee.of_bits binary32 0xb586_37bd
 
 -- Document 01, Corners: a pixel is skipped if a weight is below -1e-6
-unfoldable pub covered_by : PerCorner → Bool
+unfoldable pub covered_by : PerCorner Float → Bool
 covered_by w = cond (Ieee.lt w.a edge_eps) false (cond (Ieee.lt w.b edge_eps) false (cond (Ieee.lt w.c edge_eps) false true))
 
 -- depth interpolates linearly in window space
-unfoldable pub depth_at : Raster → PerCorner → Float
-depth_at t w = sum_of w (per_corner t.a.z t.b.z t.c.z)
+unfoldable pub depth_at : Raster → PerCorner Float → Float
+depth_at t w = sum_of w (per_corner t.corners.a.z t.corners.b.z t.corners.c.z)
 
 -- the interpolated 1/w
-unfoldable pub inv_w_at : Raster → PerCorner → Float
-inv_w_at t w = sum_of w (per_corner t.a.inv_w t.b.inv_w t.c.inv_w)
+unfoldable pub inv_w_at : Raster → PerCorner Float → Float
+inv_w_at t w = sum_of w (per_corner t.corners.a.inv_w t.corners.b.inv_w t.corners.c.inv_w)
 
 -- raster.rs, raster_clipped: iw <= 0.0 || !iw.is_finite() skips the pixel
 unfoldable pub usable : Float → Bool
 usable iw = cond (Ieee.le iw zero32) false (finite_of iw)
 
 -- p0, p1 and p2: the weights for what is interpolated with perspective
-unfoldable pub shares_of : Raster → PerCorner → Float → PerCorner
-shares_of t w rec = per_corner (w.a ⊗ t.a.inv_w ⊗ rec) (w.b ⊗ t.b.inv_w ⊗ rec) (w.c ⊗ t.c.inv_w ⊗ rec)
+unfoldable pub shares_of : Raster → PerCorner Float → Float → PerCorner Float
+shares_of t w rec = per_corner (w.a ⊗ t.corners.a.inv_w ⊗ rec) (w.b ⊗ t.corners.b.inv_w ⊗ rec) (w.c ⊗ t.corners.c.inv_w ⊗ rec)
 
 -- number i of the three corners' lists
-abbrev pub corners_at : ℕ → List Float → List Float → List Float → PerCorner
+abbrev pub corners_at : ℕ → List Float → List Float → List Float → PerCorner Float
 corners_at i a b c = per_corner (get_or a i nan) (get_or b i nan) (get_or c i nan)
 
 -- OpenGL ES 1.1, Flatshading: the last corner's colour, or the colour between the three
-unfoldable pub color_of : Bool → PerCorner → List Float → List Float → List Float → Rgba
+unfoldable pub color_of : Bool → PerCorner Float → List Float → List Float → List Float → Rgba
 color_of smooth p a b c =
     cond smooth
     (record { r = sum_of p (corners_at 0 a b c); g = sum_of p (corners_at 1 a b c); b = sum_of p (corners_at 2 a b c); a = sum_of p (corners_at 3 a b c) })

@@ -1,10 +1,11 @@
 -- Comparisons of floats above 0 as comparisons of fractions, and of their powers. Assumes nothing.
 use Rattle.std.proofs.lemmas.Nat.{mul-pow}
-use Rattle.std.proofs.Common.{◌≡◌, ℕ, ◌+◌, ◌*◌, ◌^◌, ◌<◌, ◌≤◌, true, false, T, sym, refl, subst, subst₂, le_trans, mul-le-mul_right, one-mul, mul_right_comm, le_of_mul-le-mul_right, add-one, arith, ltb-false, ltb-true}
+use Rattle.std.proofs.Common.{◌≡◌, ℕ, zero, suc, ◌+◌, ◌⊎◌, inl, inr, List, Option, Some, None, eq-or-lt_of_le, slice_index_or, ◌*◌, ◌^◌, ◌<◌, ◌≤◌, true, false, T, sym, refl, subst, subst₂, le_trans, mul-le-mul_right, one-mul, mul_right_comm, le_of_mul-le-mul_right, add-one, arith, ltb-false, ltb-true}
+use Rattle.std.specs.Option.{MatchOption, unwrap_or}
 use native.Mathlib.Nat.{pow-le-pow_left, pow-lt-pow_left, one-le-pow}
 use lib.Ieee.{Float, nan, inf, fin, up, down, binary64, lt, fits}
 use lib.Ieee.Positive.{num, den, positive, den_pos}
-use Rattle.detail.specs.Steps.{Entry, Reached, Largest}
+use Rattle.detail.specs.Steps.{Entry, Thresholds, Reached, Largest}
 use Rattle.std.proofs.lemmas.Nat.{mul-pow}
 
 pub below : (x y : Float) → T (positive x) → T (positive y) → lt x y ≡ true → num x * den y < num y * den x
@@ -47,3 +48,25 @@ highest m h r = record { reached = r; next_not = subst₂ ◌<◌ refl (mul-pow 
 
 pub stop : (i : ℕ) (v m : Float) → Entry (i + 1) v → T (fits binary64 m) → T (positive m) → lt m v ≡ true → Reached m i → Largest m i
 stop i v m r f p h k = record { reached = k; next_not = subst (λ (z : ℕ). num m ^ 128 < 2 ^ z * den m ^ 128) (add-one i) (r.first m f p h) }
+
+-- ---- the first entry from a place that m is below: the one before it is the last that m reaches
+module _ (t : List Float) (h : Thresholds t) (m : Float) (f : T (fits binary64 m)) (p : T (positive m)) (two : num m < 2 * den m) (start : ℕ) where
+  abbrev Under : ℕ → Type 0
+  Under i = lt m (slice_index_or t (i + 1) nan) ≡ true
+
+  abbrev Past : ℕ → Type 0
+  Past i = lt m (slice_index_or t (i + 1) nan) ≡ false
+
+  climb : (i : ℕ) → i < 128 → start ≤ i → Reached m start → ((k : ℕ) → start ≤ k → k < i → Past k) → Reached m i
+  climb i l g r n = go i l (eq-or-lt_of_le g) n
+    where
+      go : (i : ℕ) → i < 128 → (start ≡ i) ⊎ (suc start ≤ i) → ((k : ℕ) → start ≤ k → k < i → Past k) → Reached m i
+      go i l (inl e) n = subst (Reached m) e r
+      go zero l (inr e) n = absurd (omega arith)
+      go (suc j) l (inr e) n = subst (Reached m) (add-one j) (reach (j + 1) _ m (h.entry (j + 1) (omega arith)) p (n j (omega arith) (omega arith)))
+
+  pub first_above : start < 128 → Reached m start → (r : Option ℕ)
+      → MatchOption r ((k : ℕ) → start ≤ k → k < 127 → Past k) (λ i. (start ≤ i) × (i < 127) × Under i × ((k : ℕ) → start ≤ k → k < i → Past k)) → (i : ℕ) → i ≡ unwrap_or r 127 → (i < 128) × Largest m i
+  first_above s r None n i e = (omega arith, subst (Largest m) (sym e) (highest m two (climb 127 (omega arith) (omega arith) r n)))
+  first_above s r (Some k) n i e =
+      (omega (arith, n.1), subst (Largest m) (sym e) (stop k _ m (h.entry (k + 1) (omega (arith, n.1))) f p n.2 (climb k (omega (arith, n.1)) n.0 r n.3)))

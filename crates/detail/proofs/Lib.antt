@@ -6,3 +6,5 @@ pub mod Grid
 pub mod Fields
 pub mod Largest
 pub mod Cut
+pub mod Canonical
+pub mod Greater

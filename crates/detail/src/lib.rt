@@ -5,7 +5,6 @@ ghost use Rattle.std.specs.Prelude.{◌≡◌, ◌+◌, ◌*◌, ◌<◌, ◌≤
 ghost use Rattle.std.specs.Float.Ieee as Ieee;
 ghost use Rattle.std.specs.Float.{fin, inf};
 ghost use Rattle.std.specs.Float.Ieee.Positive.{num, den, positive};
-ghost use Rattle.floats.specs.Num.{max_of};
 ghost use Rattle.detail.specs.Pairs.{pair_of, q_of};
 ghost use Rattle.detail.specs.Steps.{Thresholds, Largest, Reached, steps_of, cut_of};
 
@@ -13,24 +12,12 @@ ghost use Rattle.detail.specs.Steps.{Thresholds, Largest, Reached, steps_of, cut
 fn pair(a: f32, b: f32) -> f64
     ensures { result ≡ pair_of a b }
 {
-    if a.is_infinite() {
-        return f64::INFINITY;
-    }
-    if b.is_infinite() {
+    if a.is_infinite() || b.is_infinite() {
         return f64::INFINITY;
     }
     let x = std::num::f32_to_f64_with_nan(a);
     let y = std::num::f32_to_f64_with_nan(b);
     x * x + y * y
-}
-
-fn larger(a: f64, b: f64) -> f64
-    ensures { result ≡ max_of a b }
-{
-    if a != a {
-        return b;
-    }
-    if a < b { b } else { a }
 }
 
 // q: the larger sum of the two pairs.
@@ -39,7 +26,9 @@ pub fn q_of(width: u32, height: u32, dsdx: f32, dtdx: f32, dsdy: f32, dtdy: f32)
 {
     let w = std::num::nearest_u32_to_f32(width);
     let h = std::num::nearest_u32_to_f32(height);
-    larger(pair(dsdx * w, dtdx * h), pair(dsdy * w, dtdy * h))
+    let along_x = pair(dsdx * w, dtdx * h);
+    let along_y = pair(dsdy * w, dtdy * h);
+    along_x.max(along_y)
 }
 
 // Entry i: the first f64 whose 128th power reaches 2^i.
@@ -189,10 +178,7 @@ impl Significand {
     // A place in the table, by the digits: at most the right one, and at most two below it. What it is used for holds of any place.
     fn guess(self) -> u64 {
         let a = self.k * 128 + self.k * (4096 - self.k) / 96;
-        if a < 2800 {
-            return 0;
-        }
-        (a - 2800) / 4096
+        a.saturating_sub(2800) / 4096
     }
 }
 
@@ -225,16 +211,17 @@ impl LevelTable {
     }
 
     // The largest i with 2^i <= m^128.
-    // Kept: partition_point would take seven steps for the one to three from the guess, and a proof of the entries' order. (6f)
+    // Kept: the guess lies at most two below, where partition_point would take seven steps; it would also owe a proof that the 128 entries rise. (6f)
     fn step_of(&self, s: Significand) -> usize
         ensures { (result < 128) × Largest s.m result }
     {
-        for i in self.start(s)..127 {
-            if s.m < self.thresholds[i + 1] {
-                return i;
-            }
-        }
-        127
+        (self.start(s)..127)
+            .find(
+                |i|
+                    requires { i.now < 127 }
+                { s.m < self.thresholds[*i + 1] },
+            )
+            .unwrap_or(127)
     }
 
     // The largest whole number n with 2^n <= q^128.

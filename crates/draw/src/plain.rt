@@ -22,9 +22,7 @@ pub fn draw_triangle(
     ensures { outcome (answer_of result) colors.new depths.new ≡ draw_of [] width height (draw_args state [] 0 t.a t.b t.c) [] colors.old depths.old }
 {
     draw_checks::check_settings(width, height, colors.len(), depths.len(), state)?;
-    if !draw_checks::vertices_fit(t) {
-        return Err(Refusal::Vertex);
-    }
+    draw_checks::check_late(&[], 0, t)?;
     let paint = Plain { state };
     Ok(crate::draw_checked(colors, depths, width, height, &paint, t))
 }

@@ -1,6 +1,6 @@
 -- Settings that are written read back the same. Assumes nothing.
 use Rattle.std.specs.Prelude.{Option, Some, None, is_some, Ok}
-use Rattle.std.specs.Result.{is_ok, result_unwrap_or}
+use Rattle.std.specs.Result.{result_unwrap_or}
 use mathlib.Core.Bool.{true}
 use mathlib.Core.Path.{◌≡◌, refl, sym, ap, ◌∙◌}
 use Prim.Native.Nat.{ℕ, ◌*◌, ◌%◌, ◌<◌}

@@ -6,11 +6,11 @@ ghost use Rattle.lists.specs.Lists.{tab};
 ghost use Rattle.draw_bytes.specs.Write.{bytes_of, float_bits, float_bits_at, cull_code, number_words, viewport_words, box_words, settings_words, stage_words, vertex_words};
 
 use settings::{CullMode, PipelineState, ScissorBox, TextureStage, Viewport};
-use std::num;
+use std::{array, num};
 use vertices::Vertex;
 
 // A float's bits; NaN is the quiet one.
-// Kept: std's function by a short name, for the sixteen calls below. (4d)
+// Kept: std's function by a short name, for the calls below; with `use .. as` in its place `float_words`'s returns stays open (4d)
 fn float_bits(x: f32) -> u32
     ensures { result ≡ float_bits x }
 {
@@ -21,10 +21,7 @@ fn float_bits(x: f32) -> u32
 fn cull_code(c: Option<CullMode>) -> u32
     ensures { result ≡ cull_code c }
 {
-    match c {
-        None => 0,
-        Some(m) => u32::from(m),
-    }
+    c.map_or(0, |m| u32::from(m))
 }
 
 // Kept: the bytes are `to_le_bytes`'s, and of chunks that `as_chunks_mut` has lent std says nothing once they are written. (4g)
@@ -37,51 +34,39 @@ fn put_words(b: &mut [u8], words: &[u32])
     }
 }
 
+fn float_words<const N: usize>(x: &[f32; N]) -> [u32; N]
+    ensures { result ≡ tab N (float_bits_at x.now) }
+{
+    let x: &[f32] = x;
+    array::from_fn(|i| float_bits(x[i]))
+}
+
 #[tactic(auto, unfolding(crate::specs::Write::stage_words))]
 fn stage_words(x: TextureStage) -> [u32; 6]
     ensures { result ≡ stage_words x }
 {
-    [
-        x.unit,
-        u32::from(x.env),
-        float_bits(x.env_color.r),
-        float_bits(x.env_color.g),
-        float_bits(x.env_color.b),
-        float_bits(x.env_color.a),
-    ]
+    let [r, g, b, a] = float_words(&<[f32; 4]>::from(x.env_color));
+    [x.unit, u32::from(x.env), r, g, b, a]
 }
 
-pub fn write_stage(b: &mut [u8], stage: TextureStage)
-    requires { length b.old ≡ 24 }
+pub fn write_stage(b: &mut [u8; 24], stage: TextureStage)
     ensures { b.new ≡ bytes_of (stage_words stage) }
 {
     put_words(b, &stage_words(stage));
-}
-
-#[tactic(auto, using(lists::proofs::Tables::tab_none))]
-fn float_words<const N: usize>(x: [f32; N]) -> [u32; N]
-    ensures { result ≡ tab N (float_bits_at x.entry) }
-{
-    let mut out = [0; N];
-    for (i, word) in out.iter_mut().enumerate() {
-        *word = float_bits(x[i]);
-    }
-    out
 }
 
 fn vertex_words(v: Vertex) -> [u32; 17]
     ensures { result ≡ vertex_words v }
 {
     let mut out = [0; 17];
-    out[..4].copy_from_slice(&float_words(v.pos));
-    out[4..8].copy_from_slice(&float_words(v.color));
-    out[8..16].copy_from_slice(&float_words(v.texcoord));
+    out[..4].copy_from_slice(&float_words(&v.pos));
+    out[4..8].copy_from_slice(&float_words(&v.color));
+    out[8..16].copy_from_slice(&float_words(&v.texcoord));
     out[16] = float_bits(v.fog_depth);
     out
 }
 
-pub fn write_vertex(b: &mut [u8], v: Vertex)
-    requires { length b.old ≡ 68 }
+pub fn write_vertex(b: &mut [u8; 68], v: Vertex)
     ensures { b.new ≡ bytes_of (vertex_words v) }
 {
     put_words(b, &vertex_words(v));
@@ -111,7 +96,7 @@ fn box_words(s: Option<ScissorBox>) -> [u32; 4]
     ensures { result ≡ box_words s }
 {
     match s {
-        None => [0, 0, 0, 0],
+        None => [0; 4],
         Some(b) => number_words(b.x, b.y, b.width, b.height),
     }
 }
@@ -121,6 +106,7 @@ fn settings_words(s: PipelineState) -> [u32; 36]
 {
     let [x, y, width, height] = viewport_words(s.viewport);
     let [box_x, box_y, box_width, box_height] = box_words(s.scissor);
+    let [r, g, b, a] = float_words(&<[f32; 4]>::from(s.fog_color));
     [
         x,
         y,
@@ -150,10 +136,10 @@ fn settings_words(s: PipelineState) -> [u32; 36]
         u32::from(s.color_mask.a),
         u32::from(s.fog),
         u32::from(s.fog_mode),
-        float_bits(s.fog_color.r),
-        float_bits(s.fog_color.g),
-        float_bits(s.fog_color.b),
-        float_bits(s.fog_color.a),
+        r,
+        g,
+        b,
+        a,
         float_bits(s.fog_start),
         float_bits(s.fog_end),
         float_bits(s.fog_density),
@@ -161,8 +147,7 @@ fn settings_words(s: PipelineState) -> [u32; 36]
     ]
 }
 
-pub fn write_settings(b: &mut [u8], state: PipelineState)
-    requires { length b.old ≡ 144 }
+pub fn write_settings(b: &mut [u8; 144], state: PipelineState)
     ensures { b.new ≡ bytes_of (settings_words state) }
 {
     put_words(b, &settings_words(state));

@@ -11,6 +11,7 @@ use Rattle.answers.proofs.Answered.{refused_pos}
 use Rattle.settings.specs.declared.TextureStage.{TextureStage}
 use Rattle.settings.specs.declared.PipelineState.{PipelineState}
 use Rattle.scissor.specs.Check.{target_fits, scissor_fits}
+use Rattle.scissor.proofs.Outcome.{through}
 use Rattle.draw_checks.specs.Checks.{all_below, viewport_fits, state_fits, fog_fits, stages_fit, early_check}
 use Rattle.draw_checks.proofs.Passed.{some}
 
@@ -25,10 +26,6 @@ module _ (width height colors depths : ℕ) (s : PipelineState) where
       let d = was_true (state_fits s) c.1 (some 4 refl) in
       let f = was_true (fog_fits s) d.1 (some 7 refl) in
       rw (a.0, b.0, c.0, d.0, f.0)
-
-  through : (b : Bool) {x y k : ℕ} (z : ℕ) → (x ≡ k → y ≡ k) → cond b x z ≡ k → cond b y z ≡ k
-  through true z f e = f e
-  through false z f e = e
 
   -- and one of them refuses whatever the stages are
   pub early_refused : (stages : List TextureStage) (n : ℕ) (why : Refusal) → refusal_number why ≡ early_check width height colors depths s [] 0 → refusal_number why ≡ early_check width height colors depths s stages n

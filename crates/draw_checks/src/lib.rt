@@ -12,11 +12,17 @@ use levels::Texture;
 use settings::{FogMode, PipelineState, Rgba, TextureStage, Viewport};
 use vertices::{Triangle, Vertex};
 
+// The largest width or height of a viewport is that of a target.
+const MAX_VIEWPORT_SIDE: i32 = PipelineState::MAX_TARGET_SIDE as i32;
+
 #[tactic(auto, unfolding(crate::specs::Checks::viewport_fits))]
 fn viewport_fits(v: Viewport) -> bool
     ensures { result ≡ viewport_fits v }
 {
-    scissor::number_fits(v.x) && scissor::number_fits(v.y) && v.width <= 4096 && v.height <= 4096
+    scissor::number_fits(v.x)
+        && scissor::number_fits(v.y)
+        && v.width <= MAX_VIEWPORT_SIDE
+        && v.height <= MAX_VIEWPORT_SIDE
 }
 
 // Kept: one call of all, as records_fit, each over its own test (2b)
@@ -30,33 +36,24 @@ fn all_fit(v: &[f32]) -> bool
 fn color_fits(c: Rgba) -> bool
     ensures { result ≡ color_fits c }
 {
-    all_fit(&[c.r, c.g, c.b, c.a])
+    all_fit(&<[f32; 4]>::from(c))
 }
 
+#[tactic(auto, unfolding(crate::specs::Checks::state_fits, crate::specs::Checks::color_fits))]
 fn state_fits(s: PipelineState) -> bool
     ensures { result ≡ state_fits s }
 {
     let range = s.depth_range;
-    let fog = s.fog_color;
-    all_fit(&[
-        range.near,
-        range.far,
-        s.alpha_ref,
-        fog.r,
-        fog.g,
-        fog.b,
-        fog.a,
-        s.fog_start,
-        s.fog_end,
-        s.fog_density,
-    ])
+    all_fit(&[range.near, range.far, s.alpha_ref])
+        && color_fits(s.fog_color)
+        && all_fit(&[s.fog_start, s.fog_end, s.fog_density])
 }
 
 #[tactic(auto, unfolding(crate::specs::Checks::fog_fits))]
 fn fog_fits(s: PipelineState) -> bool
     ensures { result ≡ fog_fits s }
 {
-    !s.fog || matches!(s.fog_mode, FogMode::Linear)
+    !s.fog || s.fog_mode == FogMode::Linear
 }
 
 #[tactic(auto, using(std::proofs::lemmas::Bool::Decides::nat_tests), unfolding(crate::specs::Checks::stage_fits))]
@@ -66,11 +63,13 @@ fn stage_fits(x: TextureStage) -> bool
     x.unit < PipelineState::MAX_TEXTURE_STAGES && color_fits(x.env_color)
 }
 
-// Kept: check 6 refuses a count above four, so that before it the count is no length of the four (6a)
+// Kept: check 6 refuses a count above four, so that before it the count is no length of the four; a struct of the pair would hold no fact,
+// since the count is that of the layouts that C lends (6a)
 fn stages_fit(stages: [TextureStage; 4], count: usize) -> bool
     ensures { result ≡ stages_fit stages count }
 {
-    count <= 4 && stages[..count].iter().all(|x| stage_fits(*x))
+    count <= PipelineState::MAX_TEXTURE_STAGES as usize
+        && stages[..count].iter().all(|x| stage_fits(*x))
 }
 
 // The records that the stages in use read, valid over a store of len bytes.
@@ -81,7 +80,7 @@ fn records_fit(textures: &[Texture], len: usize) -> bool
     textures.iter().all(|x| levels::is_valid(*x, len))
 }
 
-// Kept: the floats of a vertex's four fields; what tests a colour's four by name is of another type (2b)
+// Kept: a scissor's box has four whole numbers, and the chain alone in common with a vertex (2b)
 #[tactic(auto, unfolding(crate::specs::Checks::vertex_fits))]
 fn vertex_fits(v: Vertex) -> bool
     ensures { result ≡ vertex_fits v }
@@ -89,7 +88,8 @@ fn vertex_fits(v: Vertex) -> bool
     all_fit(&v.pos) && all_fit(&v.color) && all_fit(&v.texcoord) && floats::is_bounded(v.fog_depth)
 }
 
-// Kept: an array of the three with all over it is no shorter, and copies them (2b, 3f)
+// Kept: an array of the three with all over it is no shorter, and copies them; a PerCorner::all stops at the first false, so that its clause
+// would have to tell which calls are made: longer than the two && (2b, 3f)
 #[tactic(auto, unfolding(crate::specs::Checks::vertices_fit))]
 pub fn vertices_fit(t: Triangle) -> bool
     ensures { result ≡ vertices_fit t.a t.b t.c }
@@ -98,7 +98,7 @@ pub fn vertices_fit(t: Triangle) -> bool
 }
 
 // 1, 2, 3, 4 and 7. colors, depths: how many there are.
-// Kept: handed on to scissor::target_fits, which clears and the export call with one slice and the other's length (5c, 6b)
+// Kept: handed on to scissor::check, which clears call with one slice and the other's length (5c, 6b)
 #[tactic(auto, using(std::proofs::lemmas::Bool::Decides::nat_tests), unfolding(crate::specs::Checks::early_check, crate::specs::Checks::stages_fit, crate::specs::Checks::all_below))]
 pub fn check_settings(
     width: u32,
@@ -109,12 +109,7 @@ pub fn check_settings(
 ) -> Result<(), Refusal>
     ensures { answer_number result ≡ early_check width height colors depths s [] 0 }
 {
-    if !scissor::target_fits(width, height, colors, depths) {
-        return Err(Refusal::Target);
-    }
-    if !scissor::scissor_fits(s.scissor) {
-        return Err(Refusal::Scissor);
-    }
+    scissor::check(width, height, colors, depths, s.scissor)?;
     if !viewport_fits(s.viewport) {
         return Err(Refusal::Viewport);
     }
@@ -128,8 +123,9 @@ pub fn check_settings(
 }
 
 // 1, 2, 3, 4, 7 and 6.
-// Kept: handed on to scissor::target_fits, which clears and the export call with one slice and the other's length (5c, 6b)
-// Kept: check 6 refuses a count above four, so that before it the count is no length of the four (6a)
+// Kept: handed on to scissor::check, which clears call with one slice and the other's length (5c, 6b)
+// Kept: check 6 refuses a count above four, so that before it the count is no length of the four; a struct of the pair would hold no fact,
+// since the count is that of the layouts that C lends (6a)
 #[tactic(auto, using(std::proofs::lemmas::Bool::Decides::nat_tests), unfolding(crate::specs::Checks::early_check))]
 pub fn check_early(
     width: u32,
@@ -151,6 +147,7 @@ pub fn check_early(
 
 // 8 and 5. textures: the records that the stages in use read; len: the store's length.
 // Kept: levels::is_valid's own parameter, handed on (6b)
+// Kept: scissor's check has one refusal after another in common with it, and other tests (2b)
 #[tactic(auto, using(std::proofs::lemmas::Bool::Decides::nat_tests), unfolding(crate::specs::Checks::late_check))]
 pub fn check_late(textures: &[Texture], len: usize, t: Triangle) -> Result<(), Refusal>
     ensures { answer_number result ≡ late_check len (length textures.now) textures.now t.a t.b t.c }

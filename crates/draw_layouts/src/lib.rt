@@ -19,7 +19,7 @@ use settings::{
     BlendFactor, ColorMask, CompareFunc, CullMode, DepthRange, FogMode, FrontFace, PipelineState,
     Rgba, ScissorBox, TexEnvMode, TextureStage, Viewport,
 };
-use std::num;
+use std::{array, num};
 use vertices::Vertex;
 
 // The stages of a layout, of which the first four are read; count is that of all.
@@ -81,41 +81,31 @@ fn read_at<T: Word>(b: &[u8], at: usize) -> T
     T::of(layouts::word_at(b, at))
 }
 
-#[tactic(auto, unfolding(crate::specs::Numbers::color_at, crate::specs::Numbers::float_at))]
-fn color_at(b: &[u8], at: usize) -> Rgba
-    requires { at + 16 ≤ length b.now }
-    ensures { result ≡ color_at b.now at }
-{
-    Rgba {
-        r: read_at(b, at),
-        g: read_at(b, at + 4),
-        b: read_at(b, at + 8),
-        a: read_at(b, at + 12),
-    }
-}
-
-#[tactic(auto, using(lists::proofs::Tables::tab_none))]
 fn floats_at<const N: usize>(b: &[u8], at: usize) -> [f32; N]
     requires { at + N * 4 ≤ length b.now }
     ensures { result ≡ tab N (λ i. float_at b.now (at + i * 4)) }
 {
-    let mut out = [0.0; N];
-    for (i, x) in out.iter_mut().enumerate() {
-        *x = read_at(b, at + i * 4);
-    }
-    out
+    array::from_fn(|i| read_at(b, at + i * 4))
+}
+
+// Kept: a mask is read of four words that are 0 or 1, as a record of four switches, which no `from` makes of an array (2e)
+fn color_at(b: &[u8], at: usize) -> Rgba
+    requires { at + 16 ≤ length b.now }
+    ensures { result ≡ color_at b.now at }
+{
+    Rgba::from(floats_at::<4>(b, at))
 }
 
 // The faces that a code says are discarded: 0 is none.
-// Kept: neither `Option` nor `CullMode` is of this crate, so that no impl of TryFrom for an `Option<CullMode>` can stand here.
+// Kept: neither `Option` nor `CullMode` is of this crate, so that no impl of TryFrom for an `Option<CullMode>` can stand here. (1l, 4i)
 #[tactic(auto, using(std::proofs::lemmas::Bool::Decides::nat_tests), unfolding(crate::specs::Codes::cull_of))]
 fn cull_of(code: u32) -> Result<Option<CullMode>, Refusal>
     ensures { result ≡ cull_of code }
 {
-    match code {
-        0 => Ok(None),
-        _ => Ok(Some(CullMode::try_from(code)?)),
+    if code == 0 {
+        return Ok(None);
     }
+    CullMode::try_from(code).map(Some)
 }
 
 #[tactic(auto, unfolding(crate::specs::Settings::viewport_of, crate::specs::Numbers::signed_at))]
@@ -130,7 +120,6 @@ fn viewport_at(b: &[u8; 144]) -> Viewport
     }
 }
 
-// Kept: a layout's box has its switch and its numbers at places of its own. (2c)
 #[tactic(auto, using(std::proofs::lemmas::Bool::Decides::nat_tests), unfolding(crate::specs::Settings::scissor_of, crate::specs::Numbers::signed_at))]
 fn scissor_at(b: &[u8; 144]) -> Option<ScissorBox>
     ensures { result ≡ scissor_of b.now }
@@ -207,6 +196,7 @@ pub fn read_settings(b: &[u8]) -> Option<PipelineState>
 }
 
 // Stage k, or an unused one past the end.
+// The array has four stages whatever the count is, so that each call would make the unused one of a `None`.
 #[tactic(auto, using(std::proofs::lemmas::Bool::Decides::nat_tests), unfolding(crate::specs::Stages::stage_known, crate::specs::Stages::stage_or, crate::specs::Stages::read_stage))]
 fn stage_at(b: &[u8], k: usize) -> Option<TextureStage>
     ensures { result ≡ cond (stage_known b.now k) (Some (stage_or b.now k)) None }
@@ -231,7 +221,7 @@ pub fn read_stages(b: &[u8]) -> Option<Stages>
         return None;
     }
     let first = stage_at(b, 0)?;
-    // Kept: std's `try_from_fn` takes a closure that answers a Result: `.ok_or(())` in it and `.ok()?` behind it, for four lines. (3f)
+    // Kept: with `array::try_from_fn(|k| stage_at(b, k).ok_or(())).ok()?` the goals returns and returns-in_err-first stay open (3f)
     let second = stage_at(b, 1)?;
     let third = stage_at(b, 2)?;
     let fourth = stage_at(b, 3)?;
@@ -258,10 +248,8 @@ fn vertex_at(b: &[u8], at: usize) -> Vertex
 pub fn read_vertices(b: &[u8]) -> Option<[Vertex; 3]>
     ensures { result ≡ read_vertices b.now }
 {
-    if b.len() != 204 {
-        return None;
-    }
-    Some([vertex_at(b, 0), vertex_at(b, 68), vertex_at(b, 136)])
+    let b = <&[u8; 204]>::try_from(b).ok()?;
+    Some(array::from_fn(|k| vertex_at(b, k * 68)))
 }
 
 fn unit_at(b: &[u8], at: usize) -> Option<Texture>
@@ -279,7 +267,8 @@ fn unit_layout_at(b: &[u8], at: usize) -> Option<Layout<'_>>
 }
 
 // Whether a layout holds the units' records: for a draw that reads none of them.
-// Kept: `read_units(b).is_some()` would copy four records of eleven levels for a draw that reads none. (1h)
+// Kept: `read_units(b).is_some()` would copy four records of eleven levels for a draw that reads none; a Layout gives a level, and no record. (1h)
+// Kept: with `(0..4).all(|k| unit_layout_at(b, 244 * k).is_some())` the goal returns-then-b-eq976 stays open (3f)
 #[tactic(auto, using(std::proofs::lemmas::Bool::Decides::nat_tests), unfolding(crate::specs::Units::read_units))]
 pub fn are_units_known(b: &[u8]) -> bool
     ensures { result ≡ is_some (read_units b.now) }
@@ -295,11 +284,9 @@ pub fn are_units_known(b: &[u8]) -> bool
 pub fn read_units(b: &[u8]) -> Option<[Texture; 4]>
     ensures { result ≡ read_units b.now }
 {
-    if b.len() != 976 {
-        return None;
-    }
+    let b = <&[u8; 976]>::try_from(b).ok()?;
+    // Kept: with `array::try_from_fn(|k| unit_at(b, 244 * k).ok_or(())).ok()` the goal returns stays open (3f)
     let first = unit_at(b, 0)?;
-    // Kept: std's `try_from_fn` takes a closure that answers a Result: `.ok_or(())` in it and `.ok()?` behind it, for four lines. (3f)
     let second = unit_at(b, 244)?;
     let third = unit_at(b, 488)?;
     let fourth = unit_at(b, 732)?;

@@ -40,7 +40,7 @@ module _ (st su : List ℕ) where
   unfolding stage_color
   stage_same stage x p c h = rw (sample_same x p h)
 
-  module _ (stages : List TextureStage) (xs : List Texture) (t : Primitive) (w : PerCorner) (rec : Float) where
+  module _ (stages : List TextureStage) (xs : List Texture) (t : Primitive) (w : PerCorner Float) (rec : Float) where
     stages_same : (n : ℕ) (c : Rgba) → SameAt st su (stages_addresses stages n xs t w rec) → stages_color st stages n xs t w rec c ≡ stages_color su stages n xs t w rec c
     unfolding stages_color stages_addresses stage_step iter flat
     stages_same zero c h = refl
@@ -50,7 +50,7 @@ module _ (st su : List ℕ) where
         stage_same (stage_at stages n) x p (stages_color st stages n xs t w rec c) (λ b i. h b (in_right b (stages_addresses stages n xs t w rec) _ i))
         ∙ ap (stage_color su (stage_at stages n) x p) (stages_same n c (λ b i. h b (in_left b (stages_addresses stages n xs t w rec) _ i)))
 
-  module _ (d : Drawing) (t : Primitive) (w : PerCorner) where
+  module _ (d : Drawing) (t : Primitive) (w : PerCorner Float) where
     fragment_same : (stored : Float) → SameAt st su (cond (reaches d.state t w stored) (stages_addresses d.stages d.count d.textures t w (rec_of t w)) [])
         → fragment_of st d t w stored ≡ fragment_of su d t w stored
     unfolding fragment_of shaded_of
@@ -68,7 +68,7 @@ module _ (st su : List ℕ) where
   unfolding frag_at
   frag_same d t px py old h = go (covered_by w) h
     where
-      w : PerCorner
+      w : PerCorner Float
       w = weights_of t.raster px py
 
       took : List ℕ

@@ -1,6 +1,6 @@
 -- Which store bytes a run of fragments takes: document 01, Demand 3, the bytes of the texels that are taken at every pixel that gets as
 -- far as its stages, dropped later or not.
-use Rattle.std.specs.Prelude.{ℕ, ◌<◌, ◌≡◌, true, List, ◌∷◌, ◌++◌}
+use Rattle.std.specs.Prelude.{ℕ, ◌<◌, ◌≡◌, true, List, ◌∷◌, ◌++◌, Float}
 use Rattle.gradients.specs.declared.PerCorner.{PerCorner}
 use Rattle.sampler.specs.Addresses.{addresses_of}
 use Rattle.coverage.specs.Coverage.{weights_of, covered_by}
@@ -12,7 +12,7 @@ use Rattle.frames.specs.Gather.{Drawn}
 use Rattle.pixels.specs.Way.{Drawing, reaches, rec_of}
 use Rattle.draw_reads.specs.Items.{Item, pixel_no, items_work}
 
-abbrev pub item_weights : Item → PerCorner
+abbrev pub item_weights : Item → PerCorner Float
 item_weights i = weights_of i.tri.raster i.px i.py
 
 module _ (st : List ℕ) (d : Drawing) (width : ℕ) where

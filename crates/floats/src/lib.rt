@@ -7,29 +7,29 @@ ghost use Rattle.std.specs.Float.{binary32};
 ghost use Rattle.floats.specs.Num.{min_of, max_of, clamp_of, abs_of, finite_of, bounded_of};
 
 // a.min(b): the other number where one is NaN, the first of two zeros.
-// Kept: tried as a.min(b): std promises either of two equal numbers, so either zero, and min_of is the first: `returns` stays open.
+// Kept: tried as a.min(b): std promises either of two equal numbers (IsFloatMin), so of 0 and -0 either, where min_of is a: `returns` stays open. (2a, 2e, 4c, 4d)
 pub fn min(a: f32, b: f32) -> f32
     ensures { result ≡ min_of a b }
 {
-    if a != a {
+    if a.is_nan() {
         return b;
     }
     if b < a { b } else { a }
 }
 
 // a.max(b): the other number where one is NaN, the first of two zeros.
-// Kept: tried as a.max(b): std promises either of two equal numbers, so either zero, and max_of is the first: `returns` stays open.
+// Kept: tried as a.max(b): std promises either of two equal numbers (IsFloatMax), so of 0 and -0 either, where max_of is a: `returns` stays open. (2a, 4c, 4d)
 pub fn max(a: f32, b: f32) -> f32
     ensures { result ≡ max_of a b }
 {
-    if a != a {
+    if a.is_nan() {
         return b;
     }
     if a < b { b } else { a }
 }
 
 // x.clamp(lo, hi): a NaN stays.
-// Kept: tried as x.clamp(lo, hi): std asks that lo <= hi, and any two come from the C interface: `clamp-requires` stays open.
+// Kept: tried as x.clamp(lo, hi): std asks that lo <= hi, and any two come from the C interface: `clamp-requires` stays open. (4c, 4d)
 pub fn clamp(x: f32, lo: f32, hi: f32) -> f32
     ensures { result ≡ clamp_of x lo hi }
 {
@@ -39,6 +39,7 @@ pub fn clamp(x: f32, lo: f32, hi: f32) -> f32
     if x > hi { hi } else { x }
 }
 
+// Kept: it says by abs_of what std says in its own words; without it each that calls it would owe Signs abs_is. (4d)
 #[tactic(auto, using(crate::proofs::Signs::abs_is))]
 pub fn abs(x: f32) -> f32
     ensures { result ≡ abs_of x }
@@ -46,6 +47,7 @@ pub fn abs(x: f32) -> f32
     x.abs()
 }
 
+// Kept: as abs, by finite_of and finite_is. (4d)
 #[tactic(auto, using(crate::proofs::Signs::finite_is))]
 pub fn is_finite(x: f32) -> bool
     ensures { result ≡ finite_of x }
@@ -61,6 +63,7 @@ pub fn is_bounded(x: f32) -> bool
 }
 
 // f32::from_bits(n): every NaN pattern is the one NaN.
+// Kept: public; replays and a probe read a float's bits by it, and it says by Ieee.of_bits what std says in its own words. (4d)
 pub fn from_bits(n: u32) -> f32
     ensures { result ≡ Ieee.of_bits binary32 n }
 {

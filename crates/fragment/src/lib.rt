@@ -4,64 +4,50 @@
 ghost use Rattle.std.specs.Prelude.{◌≡◌, ◌+◌, ◌<◌, length};
 ghost use Rattle.fragment.specs.Fragment.{units_of, modulate_of, decal_of, env_blend_of, add_of, env_of, tex_env_of};
 ghost use Rattle.fragment.specs.Fragment.{depth_passes, alpha_passes, linear_fog_of, fog_factor_of, fog_mix_of, fogged_of};
-ghost use Rattle.fragment.specs.Fragment.{blend_channel, blend_of, masked_of, put_color_of};
+ghost use Rattle.fragment.specs.Fragment.{blend_of, masked_of, put_color_of};
 
 use settings::{BlendFactor, ColorMask, PipelineState, Rgba, TexEnvMode, TextureStage};
 
 // Four bytes as a colour.
 // Kept: an `impl From<[u8; 4]> for Rgba` can only stand in settings, which has no units of bytes: those are of channels (4e)
+// Kept: units_of takes the four apart, as a texel and a pixel of a slice have them (5)
 pub fn to_units(r: u8, g: u8, b: u8, a: u8) -> Rgba
     ensures { result ≡ units_of r g b a }
 {
-    Rgba {
-        r: channels::to_unit(r),
-        g: channels::to_unit(g),
-        b: channels::to_unit(b),
-        a: channels::to_unit(a),
-    }
+    Rgba::from([r, g, b, a].map(channels::to_unit))
 }
 
 fn modulate(frag: Rgba, tex: Rgba) -> Rgba
     ensures { result ≡ modulate_of frag tex }
 {
-    Rgba {
-        r: frag.r * tex.r,
-        g: frag.g * tex.g,
-        b: frag.b * tex.b,
-        a: frag.a * tex.a,
-    }
+    frag.zip(tex, |f, t| f * t)
 }
 
 fn decal(frag: Rgba, tex: Rgba) -> Rgba
     ensures { result ≡ decal_of frag tex }
 {
-    Rgba {
-        r: frag.r * (1.0 - tex.a) + tex.r * tex.a,
-        g: frag.g * (1.0 - tex.a) + tex.g * tex.a,
-        b: frag.b * (1.0 - tex.a) + tex.b * tex.a,
-        a: frag.a,
-    }
+    let color = frag.zip(tex, |f, t| f * (1.0 - tex.a) + t * tex.a);
+    Rgba { a: frag.a, ..color }
 }
 
 fn env_blend(color: Rgba, frag: Rgba, tex: Rgba) -> Rgba
     ensures { result ≡ env_blend_of color frag tex }
 {
+    let kept = frag.zip(tex, |f, t| f * (1.0 - t));
+    let mixed = kept.zip(color.zip(tex, |c, t| c * t), |k, c| k + c);
     Rgba {
-        r: frag.r * (1.0 - tex.r) + color.r * tex.r,
-        g: frag.g * (1.0 - tex.g) + color.g * tex.g,
-        b: frag.b * (1.0 - tex.b) + color.b * tex.b,
         a: frag.a * tex.a,
+        ..mixed
     }
 }
 
 fn add(frag: Rgba, tex: Rgba) -> Rgba
     ensures { result ≡ add_of frag tex }
 {
+    let sum = frag.zip(tex, |f, t| floats::min(f + t, 1.0));
     Rgba {
-        r: floats::min(frag.r + tex.r, 1.0),
-        g: floats::min(frag.g + tex.g, 1.0),
-        b: floats::min(frag.b + tex.b, 1.0),
         a: frag.a * tex.a,
+        ..sum
     }
 }
 
@@ -119,12 +105,8 @@ pub fn fog_factor(s: PipelineState, depth: f32) -> f32
 fn fog_mix(f: f32, color: Rgba, c: Rgba) -> Rgba
     ensures { result ≡ fog_mix_of f color c }
 {
-    Rgba {
-        r: f * c.r + (1.0 - f) * color.r,
-        g: f * c.g + (1.0 - f) * color.g,
-        b: f * c.b + (1.0 - f) * color.b,
-        a: c.a,
-    }
+    let mixed = c.zip(color, |c, k| f * c + (1.0 - f) * k);
+    Rgba { a: c.a, ..mixed }
 }
 
 #[tactic(auto, unfolding(crate::specs::Fragment::fogged_of))]
@@ -138,23 +120,14 @@ pub fn fogged(s: PipelineState, depth: f32, frag: Rgba) -> Rgba
     }
 }
 
-fn blend_channel(src: f32, sf: f32, dst: f32, df: f32) -> f32
-    ensures { result ≡ blend_channel src sf dst df }
-{
-    floats::clamp(src * sf + dst * df, 0.0, 1.0)
-}
-
+// C = Cs S + Cd D, cut to 0 to 1.
+#[tactic(auto, unfolding(crate::specs::Fragment::blend_of))]
 pub fn blend(src_factor: BlendFactor, dst_factor: BlendFactor, src: Rgba, dst: Rgba) -> Rgba
     ensures { result ≡ blend_of src_factor dst_factor src dst }
 {
-    let sf = src_factor.resolve(src, dst);
-    let df = dst_factor.resolve(src, dst);
-    Rgba {
-        r: blend_channel(src.r, sf.r, dst.r, df.r),
-        g: blend_channel(src.g, sf.g, dst.g, df.g),
-        b: blend_channel(src.b, sf.b, dst.b, df.b),
-        a: blend_channel(src.a, sf.a, dst.a, df.a),
-    }
+    let source = src.zip(src_factor.resolve(src, dst), |c, s| c * s);
+    let stored = dst.zip(dst_factor.resolve(src, dst), |c, d| c * d);
+    source.zip(stored, |s, d| floats::clamp(s + d, 0.0, 1.0))
 }
 
 // A channel's byte, or the one stored where the mask is off.
@@ -174,6 +147,9 @@ pub fn put_color(colors: &mut [u8], i: usize, mask: ColorMask, v: Rgba)
     let g = masked_byte(mask.g, v.g, colors[i + 1]);
     let b = masked_byte(mask.b, v.b, colors[i + 2]);
     let a = masked_byte(mask.a, v.a, colors[i + 3]);
+    // Kept: with array::from_fn and copy_from_slice, which prove, a blended pixel took 22.1 ns for 17.0, a fogged one 17.5 for 13.8.
+    // draw_smooth stands at 0.70 to 0.90 of the Rust's 36.9 ns, with a bar of 1.0; that it would come to 0.80 to 1.02 is reckoned from these
+    // figures, and not measured (4k)
     colors[i] = r;
     colors[i + 1] = g;
     colors[i + 2] = b;

@@ -5,16 +5,13 @@ use mathlib.Core.Logic.{inl, inr, ◌≢◌}
 use mathlib.Core.Bool.{Bool, true, false, cond}
 use mathlib.Core.Option.{Option, none, some}
 use mathlib.Core.List.{[], ◌∷◌}
-use Prim.Native.Nat.{ℕ, ◌+◌}
+use Prim.Native.Nat.{◌+◌}
 use native.Mathlib.Decide.{ℕ_discrete}
-use native.Mathlib.Omega.{arith}
 use lib.Dec.{eqb}
 use borrow.Author.Tests.{eqb-true, eqb-false}
+use Rattle.std.proofs.Math.Option.{none-ne-some}
 use Rattle.isolation.specs.Machine.{Guest, Alike, Local, Machine, Turn, Moment, In, Own}
-use Rattle.isolation.specs.Machine.{Turns, Last, next, answer, run, answers_of, bill_of, play, only, nobody, mark, last_writer, moments, WritesAt, NoForeignReads, AsAlone, Isolation}
-
-none_some : {h : Guest} → none ≡ some h → ⊥
-none_some e = let z : ◌≡◌ {A = ℕ} 0 1 = cc in omega arith
+use Rattle.isolation.specs.Machine.{Turns, Last, next, run, answers_of, bill_of, play, only, nobody, mark, last_writer, moments, WritesAt, NoForeignReads, AsAlone, Isolation}
 
 -- a last writer that cannot be another guest is nobody or the guest itself
 pub own : (g : Guest) (o : Option Guest) → ((h : Guest) → o ≡ some h → h ≢ g → ⊥) → Own g o
@@ -108,7 +105,7 @@ module _ {State Answer Place Call : Type 0} (M : Machine State Answer Place Call
       go : (b : Bool) → (M.act m.call).writes s l ≡ b
           → (cond ((M.act m.call).writes s l) (some m.who) (w l) ≡ none) × Same l (next M m.call s) (run M ms (next M m.call s))
           → (w l ≡ none) × Same l s (run M ms (next M m.call s))
-      go true p x = absurd (none_some (sym (rw p at x.0)))
+      go true p x = absurd (none-ne-some _ (sym (rw p at x.0)))
       go false p x = (rw p at x.0, M.places.same_trans l s _ _ ((laws m.call).frame s l p) x.1)
 
   -- a place that no call ever writes is at every moment as it began
@@ -154,11 +151,11 @@ module _ {State Answer Place Call : Type 0} (M : Machine State Answer Place Call
 
     pub last_had : (ms : Turns M) (s : State) → EveryWriter ms s (nobody M)
         → (e : Moment State Place Call) → In e (moments M ms s (nobody M)) → (l : Place) (h : Guest) → e.last l ≡ some h → Fact h l
-    last_had ms s f = last_had_from ms s (nobody M) f (λ l h q. absurd (none_some q))
+    last_had ms s f = last_had_from ms s (nobody M) f (λ l h q. absurd (none-ne-some _ q))
 
     pub end_had : (ms : Turns M) (s : State) → EveryWriter ms s (nobody M)
         → (l : Place) (h : Guest) → last_writer M ms s (nobody M) l ≡ some h → Fact h l
-    end_had ms s f = end_had_from ms s (nobody M) f (λ l h q. absurd (none_some q))
+    end_had ms s f = end_had_from ms s (nobody M) f (λ l h q. absurd (none-ne-some _ q))
 
 -- the statement of specs/Machine.antt holds of every machine
 pub holds : {State Answer Place Call : Type 0} (M : Machine State Answer Place Call) → Isolation M

@@ -1,12 +1,16 @@
 // The byte layout of a texture record, as it crosses the C boundary (docs/INTERFACE.md).
 #![tactic(auto)]
 
-ghost use Rattle.std.specs.Prelude.{◌≡◌, true, ℕ, ◌+◌, ◌*◌, ◌≤◌, ◌<◌, length, take, drop, MatchOption};
+ghost use Rattle.std.specs.Prelude.{◌≡◌, true, false, ℕ, ◌+◌, ◌*◌, ◌≤◌, ◌<◌, length, take, drop, MatchOption};
 ghost use Rattle.lists.specs.Lists.{tab};
 ghost use Rattle.layouts.specs.Words.{word, long};
-ghost use Rattle.layouts.specs.Records.{read_level, read_texture, read_of, level_bytes, rest_bytes, record_bytes};
+ghost use Rattle.layouts.specs.Records.{read_level, codes_known, read_texture, read_of, level_bytes, rest_bytes, record_bytes};
 
-use levels::{Filter, MinFilter, MipLevel, Record, Texture, Wrap};
+use levels::{Filter, LEVELS, MinFilter, MipLevel, Record, Texture, Wrap};
+use std::array;
+
+// The bytes of a layout.
+pub const SIZE: usize = 244;
 
 // The N bytes at a place.
 fn bytes_at<const N: usize>(b: &[u8], at: usize) -> [u8; N]
@@ -28,16 +32,15 @@ pub fn word_at(b: &[u8], at: usize) -> u32
 // Eight bytes, the low one first.
 // Kept: as in `word_at`. (2a)
 fn long_at(b: &[u8], at: usize) -> u64
-    requires { at + 8 ≤ length b.now } // Kept: as in `word_at`. (5a)
+    requires { at + 8 ≤ length b.now }
     ensures { result ≡ long b.now at }
 {
     u64::from_le_bytes(bytes_at(b, at))
 }
 
-// Kept: replay_sampling's `level_from` reads an entry's numbers, a word for each field and no place of eight bytes. (2b)
 #[tactic(auto, unfolding(crate::specs::Records::read_level))]
-fn level_at(b: &[u8; 244], i: usize) -> MipLevel
-    requires { i < 11 } // Kept: a loop over the eleven and a test of `image_level` show it; a type for the index would hold it for one call each. (5a)
+fn level_at(b: &[u8; SIZE], i: usize) -> MipLevel
+    requires { i < 11 }
     ensures { result ≡ read_level b.now i }
 {
     let at = i * 20;
@@ -49,27 +52,51 @@ fn level_at(b: &[u8; 244], i: usize) -> MipLevel
     }
 }
 
-#[tactic(auto, using(lists::proofs::Tables::tab_none))]
-fn levels_at(b: &[u8; 244]) -> [MipLevel; 11]
+fn levels_at(b: &[u8; SIZE]) -> [MipLevel; LEVELS]
     ensures { result ≡ tab 11 (read_level b.now) }
 {
-    let mut out = [MipLevel::ABSENT; 11];
-    for (i, m) in out.iter_mut().enumerate() {
-        *m = level_at(b, i);
+    array::from_fn(|i| level_at(b, i))
+}
+
+// What a layout's four codes stand for.
+// Kept: with a Texture in its place, levels would be made for a layout that is only told as it stands. (4j)
+#[derive(Clone, Copy, Debug, PartialEq, Eq, Hash)]
+struct Codes {
+    min_filter: MinFilter,
+    mag_filter: Filter,
+    wrap_s: Wrap,
+    wrap_t: Wrap,
+}
+
+impl Codes {
+    #[tactic(auto, unfolding(crate::specs::Records::codes_known, crate::specs::Records::read_texture))]
+    fn read(b: &[u8; SIZE]) -> Option<Self>
+        ensures { MatchOption result (codes_known b.now ≡ false)
+            (λ x.
+            (codes_known b.now ≡ true) × (x.min_filter ≡ (read_texture b.now).min_filter) × (x.mag_filter ≡ (read_texture b.now).mag_filter)
+            × (x.wrap_s ≡ (read_texture b.now).wrap_s) × (x.wrap_t ≡ (read_texture b.now).wrap_t)) }
+    {
+        Some(Codes {
+            min_filter: MinFilter::try_from(word_at(b, 228)).ok()?,
+            mag_filter: Filter::try_from(word_at(b, 232)).ok()?,
+            wrap_s: Wrap::try_from(word_at(b, 236)).ok()?,
+            wrap_t: Wrap::try_from(word_at(b, 240)).ok()?,
+        })
     }
-    out
 }
 
 // The record that a layout holds.
-#[tactic(auto, using(std::proofs::lemmas::Bool::Decides::nat_tests), unfolding(crate::specs::Records::read_of, crate::specs::Records::codes_known, crate::specs::Records::read_texture))]
+#[tactic(auto, using(std::proofs::lemmas::Bool::Decides::nat_tests), unfolding(crate::specs::Records::read_of, crate::specs::Records::read_texture))]
 pub fn read_record(b: &[u8]) -> Option<Texture>
     ensures { result ≡ read_of b.now }
 {
-    let b = <&[u8; 244]>::try_from(b).ok()?;
-    let min_filter = MinFilter::try_from(word_at(b, 228)).ok()?;
-    let mag_filter = Filter::try_from(word_at(b, 232)).ok()?;
-    let wrap_s = Wrap::try_from(word_at(b, 236)).ok()?;
-    let wrap_t = Wrap::try_from(word_at(b, 240)).ok()?;
+    let b = <&[u8; SIZE]>::try_from(b).ok()?;
+    let Codes {
+        min_filter,
+        mag_filter,
+        wrap_s,
+        wrap_t,
+    } = Codes::read(b)?;
     Some(Texture {
         levels: levels_at(b),
         max_mipmap_level: long_at(b, 220) as usize,
@@ -81,34 +108,25 @@ pub fn read_record(b: &[u8]) -> Option<Texture>
 }
 
 // Whether levels 1 to 10 are absent.
-fn is_lone(b: &[u8; 244]) -> bool
+fn is_lone(b: &[u8; SIZE]) -> bool
     ensures { result ≡ true → (k : ℕ) → 0 < k → k < 11 → word b.now (k * 20) ≡ 0 }
 {
-    // Kept: `(1..11).all(..)` was tried, and its goal `returns` doesn't close: `search` leaves out which numbers a range yields. (3d)
-    for i in 1..11 {
-        if word_at(b, i * 20) != 0 {
-            return false;
-        }
-    }
-    true
+    (1..LEVELS).all(|i| word_at(b, i * 20) == 0)
 }
 
 // A layout that holds a record, told as it stands.
 #[derive(Clone, Copy, Debug, PartialEq, Eq, Hash)]
 pub struct Layout<'a> {
-    pub bytes: &'a [u8; 244],
+    pub bytes: &'a [u8; SIZE],
 }
 
 impl<'a> Layout<'a> {
-    #[tactic(auto, using(std::proofs::lemmas::Bool::Decides::nat_tests), unfolding(crate::specs::Records::read_of, crate::specs::Records::codes_known))]
+    #[tactic(auto, using(std::proofs::lemmas::Bool::Decides::nat_tests), unfolding(crate::specs::Records::read_of))]
     pub fn new(b: &'a [u8]) -> Option<Self>
         ensures { MatchOption result (read_of b.now ≡ None) (λ x. (x.bytes.now ≡ b.now) × (read_of b.now ≡ Some (read_texture b.now))) }
     {
-        let bytes = <&[u8; 244]>::try_from(b).ok()?;
-        MinFilter::try_from(word_at(bytes, 228)).ok()?;
-        Filter::try_from(word_at(bytes, 232)).ok()?;
-        Wrap::try_from(word_at(bytes, 236)).ok()?;
-        Wrap::try_from(word_at(bytes, 240)).ok()?;
+        let bytes = <&[u8; SIZE]>::try_from(b).ok()?;
+        Codes::read(bytes)?;
         Some(Layout { bytes })
     }
 }
@@ -117,7 +135,7 @@ impl Record for Layout<'_> {
     ghost texture = { λ x. read_texture x.bytes.now };
 
     // A record of level 0 alone, the usual texture without mipmaps, is told without a copy of the levels.
-    // Kept: pub: a change may not ask more of callers, and the length is all that is read. (6b)
+    // Kept: as the trait has it. (6b)
     fn is_valid(self, len: usize) -> bool {
         let b = self.bytes;
         if is_lone(b) {
@@ -132,8 +150,9 @@ impl Record for Layout<'_> {
         levels::is_valid(texture, len)
     }
 
+    // It reads the one level that is asked for, where a Texture has all eleven read first: patch_level, at its bar of speed, goes by it.
     fn image_level(self, k: usize) -> MipLevel {
-        if 10 < k {
+        if LEVELS <= k {
             return MipLevel::ABSENT;
         }
         let m = level_at(self.bytes, k);

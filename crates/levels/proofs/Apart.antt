@@ -1,6 +1,6 @@
 -- Levels that are held apart: the walk over pairs, what it says of two levels, and that levels in order of place are apart. Assumes nothing.
-use mathlib.Core.Bool.{Bool, true, false, cond}
-use mathlib.Core.Path.{◌≡◌, refl}
+use mathlib.Core.Bool.{Bool, true, false, cond, not}
+use mathlib.Core.Path.{◌≡◌, refl, sym, ap, ◌∙◌}
 use mathlib.Core.List.{List, [], ◌∷◌}
 use Prim.Native.Nat.{ℕ, zero, suc, ◌+◌, ◌*◌, ◌≤◌, ◌<◌}
 use native.Mathlib.Numerals.{add-one}
@@ -11,6 +11,9 @@ use borrow.Author.Tests.{lt-ltb, le-ltb, leb-true, le-leb, lt-leb}
 use lib.ListN.{length, get_or, drop, drop_of_length-le}
 use lib.Seq.{drop-cons}
 use Rattle.std.proofs.lemmas.Bool.{true≢false, false≢true}
+use Rattle.std.proofs.Common.{◌||◌}
+use Rattle.std.proofs.lemmas.List.{drop-drop}
+use Rattle.std.specs.List.{list_any, enumerate_from}
 use Rattle.lists.specs.Lists.{any}
 use Rattle.lists.proofs.Choice.{was_true, was_false, neither}
 use Rattle.lists.proofs.Members.{any_get_or, get_d_any}
@@ -18,18 +21,17 @@ use Rattle.levels.specs.declared.MipLevel.{MipLevel}
 use Rattle.std.proofs.lemmas.Bool.{false≢true}
 use Rattle.levels.specs.Levels.{absent, size_of, complete, overlap, overlaps, apart, starts_at, end_of, ascending}
 
-module _ (l : List MipLevel) (i : ℕ) where
-  pub apart_on : i < length l → any (overlaps (get_or l i absent)) (drop (i + 1) l) ≡ false → apart (drop (i + 1) l) ≡ apart (drop i l)
-  unfolding apart
-  apart_on h e = rw (drop-cons l i absent, rw (add-one i) at e, add-one i)
+-- the walk over pairs
+neither_is : (p q : Bool) → not (p || q) ≡ cond p false (not q)
+neither_is true q = refl
+neither_is false q = refl
 
-  pub apart_hit : i < length l → any (overlaps (get_or l i absent)) (drop (i + 1) l) ≡ true → apart (drop i l) ≡ false
-  unfolding apart
-  apart_hit h e = rw (drop-cons l i absent, rw (add-one i) at e)
-
-  pub apart_end : length l ≤ i → apart (drop i l) ≡ true
-  unfolding apart
-  apart_end h = rw (drop_of_length-le l h)
+pub pairs_apart : (whole l : List MipLevel) (i : ℕ) → drop i whole ≡ l → not (list_any (λ p. any (overlaps p.1) (drop (p.0 + 1) whole)) (enumerate_from i l)) ≡ apart l
+unfolding apart
+pairs_apart whole [] i e = refl
+pairs_apart whole (m ∷ l) i e =
+    let r : drop (i + 1) whole ≡ l = sym (drop-drop 1 i whole) ∙ ap (drop 1) e in
+    rw (r, sym (pairs_apart whole l (i + 1) r)) (neither_is (any (overlaps m) l) _)
 
 -- the walk in order of place
 module _ (l : List MipLevel) (i end : ℕ) where
@@ -79,7 +81,6 @@ incomplete_size m e p = zero_side_is m.height m.width (rw p at e)
     zero_side_is (suc h) (suc w) e = absurd (true≢false (rw (lt-ltb 0 (suc w) (omega arith), lt-ltb 0 (suc h) (omega arith)) at e))
 
 -- tests that end in false both ways
--- Kept: two cases of `refl`; one lemma below them all would take a line of import in each of five files for these three. (8e)
 pub idle_2 : (p q : Bool) → cond p false (cond q false false) ≡ false
 idle_2 true q = refl
 idle_2 false q = neither q
@@ -121,7 +122,7 @@ end_grows end m e false h = rw h (omega arith)
 
 -- a level that has ended by `end` overlaps none of those that ascend from there
 before_all : (a : MipLevel) (end : ℕ) (l : List MipLevel) → (complete a ≡ true → a.place + size_of a ≤ end) → ascending end l ≡ true → any (overlaps a) l ≡ false
-unfolding any ascending
+unfolding ascending
 before_all a end [] h e = refl
 before_all a end (b ∷ l) h e =
     let s = was_true (starts_at end b) e false≢true in

@@ -2,4 +2,3 @@ pub mod Chain
 pub mod Valid
 pub mod Lone
 pub mod Apart
-pub mod Told

@@ -1,5 +1,5 @@
 -- A record whose levels above 0 are all absent, told from level 0 alone. Assumes nothing.
-use mathlib.Core.Bool.{Bool, true, false, cond}
+use mathlib.Core.Bool.{Bool, true, false, cond, ◌&&◌}
 use mathlib.Core.Path.{◌≡◌, refl}
 use mathlib.Core.List.{List, [], ◌∷◌}
 use Prim.Native.Nat.{ℕ, zero, suc, ◌<◌}
@@ -29,12 +29,10 @@ module _ (m : MipLevel) (e : m.present ≡ false) where
   gone_incomplete = rw e
 
 all_fit : (n : ℕ) (l : List MipLevel) → Gone l → all (fits n) l ≡ true
-unfolding all
 all_fit n [] g = refl
 all_fit n (m ∷ l) g = rw (gone_fits m (g 0) n) (all_fit n l (λ i. g (suc i)))
 
 none_overlap : (a : MipLevel) (l : List MipLevel) → Gone l → any (overlaps a) l ≡ false
-unfolding any
 none_overlap a [] g = refl
 none_overlap a (m ∷ l) g = rw (gone_apart m (g 0) a) (none_overlap a l (λ i. g (suc i)))
 
@@ -54,11 +52,11 @@ same_both false = refl
 
 -- level 0 must fit, and be the top level
 pub lone_valid : (n : ℕ) (m : MipLevel) (l : List MipLevel) (top : ℕ) → Gone l → valid_levels n (m ∷ l) top ≡ cond (fits n m) (eqb top 0) false
-unfolding valid_levels all apart top_of
+unfolding valid_levels apart top_of
 lone_valid n m l top g =
     rw (all_fit n l g, none_overlap m l g, all_apart l g, no_climb m.width m.height l g, same_both (complete m)) (split (fits n m))
   where
-    split : (p : Bool) → cond {A = Bool} (cond p true false) (eqb top 0) false ≡ cond p (eqb top 0) false
+    split : (p : Bool) → cond {A = Bool} (p && true) (eqb top 0) false ≡ cond p (eqb top 0) false
     split true = refl
     split false = refl
 

@@ -8,7 +8,7 @@ use lib.Dec.{leb, ltb, leb-zero}
 use lib.ListN.{length, get_or, set}
 use borrow.Author.Tests.{leb-true, leb-false, ltb-true, eqb-true, le-leb, lt-ltb, le-ltb, eq-eqb}
 use Rattle.std.proofs.lemmas.Bool.{false≢true}
-use Rattle.lists.specs.Lists.{any, all}
+use Rattle.lists.specs.Lists.{all}
 use Rattle.lists.proofs.Choice.{was_true}
 use Rattle.lists.proofs.Members.{all_get_d}
 use Rattle.std.proofs.lemmas.Bool.{false≢true}
@@ -101,7 +101,7 @@ valid_top_in n t v e =
     omega (arith, valid_top n t v, top_bound (levels_of t.levels) (omega arith))
 
 pub new_valid : (n : ℕ) → valid_of n new_texture ≡ true
-unfolding valid_of valid_levels new_texture levels_of fits all apart any overlaps overlap top_of complete size_of
+unfolding valid_of valid_levels new_texture levels_of fits apart overlaps overlap top_of complete size_of
 new_valid n = rw (leb-zero n)
 
 -- where the sides are small enough, a kept level fits as its end does

@@ -12,24 +12,24 @@ use answers::Refusal;
 
 #[derive(Clone, Copy, Debug, PartialEq, Eq, Hash)]
 pub enum Filter {
-    Nearest,
-    Linear,
+    Nearest = consts::GL_NEAREST as isize,
+    Linear = consts::GL_LINEAR as isize,
 }
 
 #[derive(Clone, Copy, Debug, PartialEq, Eq, Hash)]
 pub enum MinFilter {
-    Nearest,
-    Linear,
-    NearestMipmapNearest,
-    LinearMipmapNearest,
-    NearestMipmapLinear,
-    LinearMipmapLinear,
+    Nearest = consts::GL_NEAREST as isize,
+    Linear = consts::GL_LINEAR as isize,
+    NearestMipmapNearest = consts::GL_NEAREST_MIPMAP_NEAREST as isize,
+    LinearMipmapNearest = consts::GL_LINEAR_MIPMAP_NEAREST as isize,
+    NearestMipmapLinear = consts::GL_NEAREST_MIPMAP_LINEAR as isize,
+    LinearMipmapLinear = consts::GL_LINEAR_MIPMAP_LINEAR as isize,
 }
 
 #[derive(Clone, Copy, Debug, PartialEq, Eq, Hash)]
 pub enum Wrap {
-    Repeat,
-    ClampToEdge,
+    Repeat = consts::GL_REPEAT as isize,
+    ClampToEdge = consts::GL_CLAMP_TO_EDGE as isize,
 }
 
 // ---- the values' codes
@@ -89,44 +89,34 @@ impl TryFrom<u32> for Wrap {
 impl From<Filter> for u32 {
     ghost from_gives = { λ f r. r ≡ mag_code f };
 
-    // Kept: each type writes its own codes, as the trait asks: one impl for a type. (2c)
+    // Kept: the trait asks for an impl for each type, and the cast is the conversion. (2a, 4e)
     fn from(f: Filter) -> u32 {
-        match f {
-            Filter::Nearest => consts::GL_NEAREST,
-            Filter::Linear => consts::GL_LINEAR,
-        }
+        f as u32
     }
 }
 
 impl From<MinFilter> for u32 {
     ghost from_gives = { λ f r. r ≡ min_code f };
 
-    // Kept: each type writes its own codes, as the trait asks: one impl for a type. (2c)
+    // Kept: the trait asks for an impl for each type, and the cast is the conversion. (2a, 4e)
     fn from(f: MinFilter) -> u32 {
-        match f {
-            MinFilter::Nearest => consts::GL_NEAREST,
-            MinFilter::Linear => consts::GL_LINEAR,
-            MinFilter::NearestMipmapNearest => consts::GL_NEAREST_MIPMAP_NEAREST,
-            MinFilter::LinearMipmapNearest => consts::GL_LINEAR_MIPMAP_NEAREST,
-            MinFilter::NearestMipmapLinear => consts::GL_NEAREST_MIPMAP_LINEAR,
-            MinFilter::LinearMipmapLinear => consts::GL_LINEAR_MIPMAP_LINEAR,
-        }
+        f as u32
     }
 }
 
 impl From<Wrap> for u32 {
     ghost from_gives = { λ w r. r ≡ wrap_code w };
 
-    // Kept: each type writes its own codes, as the trait asks: one impl for a type. (2c)
+    // Kept: the trait asks for an impl for each type, and the cast is the conversion. (2a, 4e)
     fn from(w: Wrap) -> u32 {
-        match w {
-            Wrap::Repeat => consts::GL_REPEAT,
-            Wrap::ClampToEdge => consts::GL_CLAMP_TO_EDGE,
-        }
+        w as u32
     }
 }
 
 // ---- the record
+
+// How many levels a texture has, with those that are absent.
+pub const LEVELS: usize = 11;
 
 // `place` is the level's first byte in the store. The fields of an absent level are ignored, and so is level 0's flag.
 // Kept: the C interface hands an absent level's other numbers back as they came, and an Option would lose them. (1e)
@@ -139,6 +129,9 @@ pub struct MipLevel {
 }
 
 impl MipLevel {
+    // The longest side, in texels.
+    pub const MAX_SIDE: u32 = 1024;
+
     pub const ABSENT: MipLevel = MipLevel {
         present: false,
         place: 0,
@@ -149,7 +142,7 @@ impl MipLevel {
 
 #[derive(Clone, Copy, Debug, PartialEq, Eq, Hash)]
 pub struct Texture {
-    pub levels: [MipLevel; 11],
+    pub levels: [MipLevel; LEVELS],
     pub max_mipmap_level: usize, // Kept: the record of the C interface has any number here; `is_valid` tells. (6e)
     pub min_filter: MinFilter,
     pub mag_filter: Filter,
@@ -165,7 +158,7 @@ impl Texture {
         ensures { result ≡ new_texture }
     {
         Texture {
-            levels: kept_levels([MipLevel::ABSENT; 11]),
+            levels: kept_levels([MipLevel::ABSENT; LEVELS]),
             max_mipmap_level: 0,
             min_filter: MinFilter::NearestMipmapLinear,
             mag_filter: Filter::Linear,
@@ -177,21 +170,11 @@ impl Texture {
 
 // The levels with level 0's flag set: it is never absent.
 #[tactic(auto, unfolding(crate::specs::Levels::levels_of))]
-pub fn kept_levels(mut levels: [MipLevel; 11]) -> [MipLevel; 11]
+pub fn kept_levels(mut levels: [MipLevel; LEVELS]) -> [MipLevel; LEVELS]
     ensures { result ≡ levels_of levels }
 {
     levels[0].present = true;
     levels
-}
-
-// Level k of a texture: absent past the last.
-pub fn image_level(levels: [MipLevel; 11], k: usize) -> MipLevel
-    ensures { result ≡ get_or (levels_of levels) k absent }
-{
-    kept_levels(levels)
-        .get(k)
-        .copied()
-        .unwrap_or(MipLevel::ABSENT)
 }
 
 #[tactic(auto, unfolding(crate::specs::Levels::size_of))]
@@ -226,7 +209,7 @@ pub fn is_complete(m: MipLevel) -> bool
 fn halved(n: u32) -> u32
     ensures { result ≡ half n }
 {
-    if n < 2 { 1 } else { n / 2 }
+    (n / 2).max(1)
 }
 
 #[tactic(auto, using(std::proofs::lemmas::Bool::Decides::nat_tests), unfolding(crate::specs::Levels::single))]
@@ -244,7 +227,8 @@ fn does_follow(w: u32, h: u32, m: MipLevel) -> bool
 }
 
 // The top level of the chain.
-pub fn calculate_max_complete_mipmap_level(levels: [MipLevel; 11]) -> usize
+// Kept: tried as levels.array_windows::<2>().position(..).unwrap_or(LEVELS - 1): `returns`, that this is top_of levels, stays open. (3)
+pub fn calculate_max_complete_mipmap_level(levels: [MipLevel; LEVELS]) -> usize
     ensures { result ≡ top_of levels }
 {
     let first = levels[0];
@@ -260,12 +244,12 @@ pub fn calculate_max_complete_mipmap_level(levels: [MipLevel; 11]) -> usize
         width = next.width;
         height = next.height;
     }
-    10
+    LEVELS - 1
 }
 
 // ---- validity
 
-// Kept: pub: a change may not ask more of callers, and the length is all that is read. (6b)
+// Kept: of the store the length is all that a level is held to. (6b)
 #[tactic(auto, using(std::proofs::lemmas::Bool::Decides::nat_tests), unfolding(crate::specs::Levels::fits))]
 pub fn does_fit(m: MipLevel, len: usize) -> bool
     ensures { result ≡ fits len m }
@@ -273,7 +257,7 @@ pub fn does_fit(m: MipLevel, len: usize) -> bool
     if !m.present {
         return true;
     }
-    if 1024 < m.width || 1024 < m.height {
+    if MipLevel::MAX_SIDE < m.width || MipLevel::MAX_SIDE < m.height {
         return false;
     }
     let size = size_of(m);
@@ -292,7 +276,7 @@ fn do_overlap(a: usize, n: usize, b: usize, m: usize) -> bool
 // Kept: `len` is the store's length in bytes, no count of the levels. (6a)
 #[derive(Clone, Copy, Debug, PartialEq, Eq, Hash)]
 pub struct Stored {
-    pub levels: [MipLevel; 11],
+    pub levels: [MipLevel; LEVELS],
     pub len: usize,
     ghost fit: { all (fits len) levels ≡ true },
 }
@@ -300,7 +284,7 @@ pub struct Stored {
 impl Stored {
     // The levels as stored, where they all fit.
     // Kept: is_valid's own length, handed on. (6b)
-    fn new(levels: [MipLevel; 11], len: usize) -> Option<Self>
+    fn new(levels: [MipLevel; LEVELS], len: usize) -> Option<Self>
         ensures { MatchOption result (all (fits len) levels ≡ false) (λ s. (s.levels ≡ levels) × (s.len ≡ len)) }
     {
         if levels.iter().all(|m| does_fit(*m, len)) {
@@ -324,23 +308,19 @@ impl Stored {
         requires { (from ≤ 11) × (fits self.len m ≡ true) }
         ensures { result ≡ any (overlaps m) (drop from self.levels) }
     {
-        for other in &self.levels[from..] {
-            if self.overlap(m, *other) {
-                return true;
-            }
-        }
-        false
+        self.levels[from..]
+            .iter()
+            .any(|other| self.overlap(m, *other))
     }
 
     fn are_pairs_apart(self) -> bool
         ensures { result ≡ apart self.levels }
     {
-        for (i, m) in self.levels.iter().enumerate() {
-            if self.any_overlap(i + 1, *m) {
-                return false;
-            }
-        }
-        true
+        !self
+            .levels
+            .iter()
+            .enumerate()
+            .any(|(i, m)| self.any_overlap(i + 1, *m))
     }
 
     // Whether each kept level with bytes starts where those before it have ended: the usual case, told in one pass.
@@ -366,24 +346,15 @@ impl Stored {
     }
 }
 
-// Kept: is_valid's own length, handed on. (6b)
-#[tactic(auto, unfolding(crate::specs::Levels::valid_levels))]
-fn are_valid(levels: [MipLevel; 11], top: usize, len: usize) -> bool
-    ensures { result ≡ valid_levels len levels top }
-{
-    match Stored::new(levels, len) {
-        Some(stored) => stored.are_apart() && top == calculate_max_complete_mipmap_level(levels),
-        None => false,
-    }
-}
-
 // Whether a record is one that document 01 takes, over a store of `len` bytes: refusal 8 where it is not.
-// Kept: pub: a change may not ask more of callers, and the length is all that is read. (6b)
-#[tactic(auto, unfolding(crate::specs::Levels::valid_of))]
+// Kept: public, and called by this name; of the store the length is all that a record is held to. (6b)
+#[tactic(auto, unfolding(crate::specs::Levels::valid_of, crate::specs::Levels::valid_levels))]
 pub fn is_valid(texture: Texture, len: usize) -> bool
     ensures { result ≡ valid_of len texture }
 {
-    are_valid(kept_levels(texture.levels), texture.max_mipmap_level, len)
+    let levels = kept_levels(texture.levels);
+    Stored::new(levels, len).is_some_and(|stored| stored.are_apart()
+        && texture.max_mipmap_level == calculate_max_complete_mipmap_level(levels))
 }
 
 // A texture's record, however it is kept.
@@ -391,11 +362,12 @@ pub trait Record: Copy {
     ghost texture: { Self → Texture };
 
     // Whether it is valid over a store of `len` bytes.
-    // Kept: pub: a change may not ask more of callers, and the length is all that is read. (6b)
+    // Kept: of the store the length is all that a record is held to. (6b)
     fn is_valid(self, len: usize) -> bool
         ensures { result ≡ valid_of len (texture self) };
 
     // Level k: absent past the last.
+    // Kept: an absent level is one whose flag is off, as the C interface has it, so that an Option would say it twice. (1n)
     fn image_level(self, k: usize) -> MipLevel
         ensures { result ≡ level_of (texture self) k };
 }
@@ -403,13 +375,16 @@ pub trait Record: Copy {
 impl Record for Texture {
     ghost texture = { λ t. t };
 
-    // Kept: pub: a change may not ask more of callers, and the length is all that is read. (6b)
+    // Kept: as the trait has it. (6b)
     fn is_valid(self, len: usize) -> bool {
         is_valid(self, len)
     }
 
     #[tactic(auto, unfolding(crate::specs::Levels::level_of))]
     fn image_level(self, k: usize) -> MipLevel {
-        image_level(self.levels, k)
+        kept_levels(self.levels)
+            .get(k)
+            .copied()
+            .unwrap_or(MipLevel::ABSENT)
     }
 }

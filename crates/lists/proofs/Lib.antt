@@ -2,7 +2,6 @@ pub mod Choice
 pub mod Tables
 pub mod Rows
 pub mod Turns
-pub mod Search
 pub mod Members
 pub mod Parts
 pub mod Stores

@@ -1,6 +1,7 @@
 -- Lists and runs that the definitions of this project are written with.
 -- The `if` of a definition is the kit's `cond`: `cond test a b` is a where the test holds, else b.
-use Rattle.std.specs.Prelude.{Bool, true, false, cond, List, [], ◌∷◌, ◌++◌, ℕ, zero, suc, ◌+◌, ◌-◌}
+use Rattle.std.specs.List.{list_any, list_all}
+use Rattle.std.specs.Prelude.{Bool, List, [], ◌∷◌, ◌++◌, ℕ, zero, suc, ◌+◌, ◌-◌}
 
 -- the table f 0, f 1, .., f (n - 1)
 unfoldable pub tab : {A : Type 0} → ℕ → (ℕ → A) → List A
@@ -27,10 +28,8 @@ unfoldable pub between : {S : Type 0} → (ℕ → S → S) → ℕ → ℕ → 
 between f k e s = turns f k (e - k) s
 
 -- whether f holds of an element; whether it holds of all
-unfoldable pub any : {A : Type 0} → (A → Bool) → List A → Bool
-any f [] = false
-any f (x ∷ l) = cond (f x) true (any f l)
+abbrev pub any : {A : Type 0} → (A → Bool) → List A → Bool
+any = list_any
 
-unfoldable pub all : {A : Type 0} → (A → Bool) → List A → Bool
-all f [] = true
-all f (x ∷ l) = cond (f x) (all f l) false
+abbrev pub all : {A : Type 0} → (A → Bool) → List A → Bool
+all = list_all

@@ -14,12 +14,11 @@ use Rattle.detail.proofs.Cut.{cut_le}
 use Rattle.mipmaps.specs.declared.Mipmap.{Mipmap}
 use Rattle.mipmaps.specs.declared.Mipmap.TheVariants.{NearestLevel, Between}
 use Rattle.mipmaps.specs.declared.Chosen.{Chosen}
-use Rattle.mipmaps.specs.declared.Chosen.TheVariants.{One, Two}
 use Rattle.mipmaps.specs.declared.Coordinates.{Coordinates}
-use Rattle.mipmaps.specs.Mipmaps.{mipmap_filter, texel_filter, between, minified, q_at, above_one, chosen_of, Within}
+use Rattle.mipmaps.specs.Mipmaps.{one_level, two_levels, mipmap_filter, texel_filter, between, minified, q_at, above_one, chosen_of, Within}
 
 -- with no level above 0 the detail is 0
-at_nought : (m : Option Mipmap) (f : Filter) → minified m f 0 ≡ One 0 f
+at_nought : (m : Option Mipmap) (f : Filter) → minified m f 0 ≡ one_level 0 f
 unfolding minified between
 at_nought None f = refl
 at_nought (Some NearestLevel) f = refl
@@ -33,21 +32,21 @@ same true c = refl
 same false c = refl
 
 module _ (width height top : ℕ) (min : MinFilter) (mag : Filter) (p : Coordinates) where
-  one_filter : texel_filter min ≡ mag → minified (mipmap_filter min) (texel_filter min) (cut_of (q_at width height p) top) ≡ One 0 (texel_filter min) → One 0 mag ≡ chosen_of width height top min mag p
+  one_filter : texel_filter min ≡ mag → minified (mipmap_filter min) (texel_filter min) (cut_of (q_at width height p) top) ≡ one_level 0 (texel_filter min) → one_level 0 mag ≡ chosen_of width height top min mag p
   unfolding chosen_of
-  one_filter e z = same (above_one (q_at width height p)) (One 0 mag) ∙ ap (λ (c : Chosen). cond (above_one (q_at width height p)) c (One 0 mag)) (sym (z ∙ ap (One 0) e))
+  one_filter e z = same (above_one (q_at width height p)) (one_level 0 mag) ∙ ap (λ (c : Chosen). cond (above_one (q_at width height p)) c (one_level 0 mag)) (sym (z ∙ ap (λ (f : Filter). one_level 0 f) e))
 
   -- where level 0 is read whatever the detail, and by one filter
-  pub without_levels : texel_filter min ≡ mag → top ≡ 0 → One 0 mag ≡ chosen_of width height top min mag p
+  pub without_levels : texel_filter min ≡ mag → top ≡ 0 → one_level 0 mag ≡ chosen_of width height top min mag p
   without_levels e z =
       one_filter e (ap (λ (n : ℕ). minified (mipmap_filter min) (texel_filter min) n) (ap (cut_of (q_at width height p)) z ∙ cut_nought (q_at width height p)) ∙ at_nought (mipmap_filter min) (texel_filter min))
 
-  pub without_mipmaps : texel_filter min ≡ mag → mipmap_filter min ≡ None → One 0 mag ≡ chosen_of width height top min mag p
+  pub without_mipmaps : texel_filter min ≡ mag → mipmap_filter min ≡ None → one_level 0 mag ≡ chosen_of width height top min mag p
   unfolding minified
   without_mipmaps e z = one_filter e (rw z)
 
 -- ---- the chosen levels are levels of the chain
-next_in : (n top : ℕ) (b : Bool) (f : Filter) → n ≤ 256 * top → eqb (n % 256) 0 ≡ b → Within top (cond b (One (n / 256) f) (Two (n / 256) f (n % 256)))
+next_in : (n top : ℕ) (b : Bool) (f : Filter) → n ≤ 256 * top → eqb (n % 256) 0 ≡ b → Within top (cond b (one_level (n / 256) f) (two_levels (n / 256) f (n % 256)))
 next_in n top true f h e = omega arith
 next_in n top false f h e = (omega (arith, eqb-false (n % 256) 0 e), omega arith)
 
@@ -65,5 +64,5 @@ pub chosen_within : (width height top : ℕ) (min : MinFilter) (mag : Filter) (p
 unfolding chosen_of
 chosen_within width height top min mag p =
     let q = q_at width height p in
-    cond_within top (above_one q) (minified (mipmap_filter min) (texel_filter min) (cut_of q top)) (One 0 mag)
+    cond_within top (above_one q) (minified (mipmap_filter min) (texel_filter min) (cut_of q top)) (one_level 0 mag)
     (minified_within (mipmap_filter min) (texel_filter min) (cut_of q top) top (cut_le q top)) (omega arith)

@@ -2,7 +2,7 @@
 #![tactic(auto)]
 
 ghost use Rattle.std.specs.Prelude.{◌≡◌, ◌*◌, ◌≤◌, Some};
-ghost use Rattle.mipmaps.specs.Mipmaps.{texel_filter, mipmap_filter, between, minified, q_at, chosen_of};
+ghost use Rattle.mipmaps.specs.Mipmaps.{texel_filter, mipmap_filter, between, minified, q_at, chosen_of, coordinates_of};
 
 use detail::LevelTable;
 use levels::{Filter, MinFilter};
@@ -16,6 +16,23 @@ pub struct Coordinates {
     pub dtdx: f32,
     pub dsdy: f32,
     pub dtdy: f32,
+}
+
+impl From<[f32; 6]> for Coordinates {
+    ghost from_gives = { λ l p. p ≡ coordinates_of l };
+
+    // Kept: records and the C interface of the probes have the six laid flat; this is where they get names (6d)
+    fn from(numbers: [f32; 6]) -> Coordinates {
+        let [s, t, dsdx, dtdx, dsdy, dtdy] = numbers;
+        Coordinates {
+            s,
+            t,
+            dsdx,
+            dtdx,
+            dsdy,
+            dtdy,
+        }
+    }
 }
 
 impl Coordinates {
@@ -34,18 +51,13 @@ pub enum Mipmap {
     Between,
 }
 
-// One level; or a level, the next, and how many 256ths of the way to it.
+// A level, and its filter; where the next one is read too, how many 256ths of the way to it.
 #[derive(Clone, Copy, Debug, PartialEq, Eq, Hash)]
-pub enum Chosen {
-    One {
-        level: usize,
-        filter: Filter,
-    },
-    Two {
-        level: usize,
-        filter: Filter,
-        part: u32,
-    },
+pub struct Chosen {
+    // Kept: a level's number; the definitions speak of it, and the levels themselves are not at hand where it is chosen. (6e)
+    pub level: usize,
+    pub filter: Filter,
+    pub part: Option<u32>,
 }
 
 fn texel_filter(min: MinFilter) -> Filter
@@ -77,15 +89,11 @@ fn mipmap_filter(min: MinFilter) -> Option<Mipmap>
 fn between_levels(n: u64, filter: Filter) -> Chosen
     ensures { result ≡ between filter n }
 {
-    let level = (n / 256) as usize;
     let part = (n % 256) as u32;
-    if part == 0 {
-        return Chosen::One { level, filter };
-    }
-    Chosen::Two {
-        level,
+    Chosen {
+        level: (n / 256) as usize,
         filter,
-        part,
+        part: (part != 0).then_some(part),
     }
 }
 
@@ -97,9 +105,10 @@ impl Mipmap {
         ensures { result ≡ minified (Some self) filter n }
     {
         match self {
-            Mipmap::NearestLevel => Chosen::One {
+            Mipmap::NearestLevel => Chosen {
                 level: ((n + 128) / 256) as usize,
                 filter,
+                part: None,
             },
             Mipmap::Between => between_levels(n, filter),
         }
@@ -122,20 +131,26 @@ pub fn chosen_levels(
     let filter = texel_filter(min);
     let mode = mipmap_filter(min);
     if filter == mag && (top == 0 || mode.is_none()) {
-        return Chosen::One {
+        return Chosen {
             level: 0,
             filter: mag,
+            part: None,
         };
     }
     let q = p.q(width, height);
     if q > 1.0 {
         return match mode {
             Some(mipmap) => mipmap.levels(table.cut_steps(q, top as u64), filter),
-            None => Chosen::One { level: 0, filter },
+            None => Chosen {
+                level: 0,
+                filter,
+                part: None,
+            },
         };
     }
-    Chosen::One {
+    Chosen {
         level: 0,
         filter: mag,
+        part: None,
     }
 }

@@ -1,10 +1,12 @@
--- The image of a decoded palette is the paletted image. Assumes nothing.
+-- The image of a decoded palette is the paletted image. How far the loop over the entries comes. Assumes nothing.
 use mathlib.Core.Path.{◌≡◌, refl}
 use mathlib.Core.List.{List, []}
-use Prim.Native.Nat.{ℕ, ◌+◌, ◌-◌, ◌*◌, ◌/◌, ◌%◌, ◌^◌, ◌<◌}
+use Prim.Native.Nat.{ℕ, ◌+◌, ◌-◌, ◌*◌, ◌/◌, ◌%◌, ◌^◌, ◌≤◌, ◌<◌}
 use native.Mathlib.Nat.{mod-lt}
 use lib.Pow.{pow_pos}
-use lib.ListN.{length, get_or}
+use native.Mathlib.Omega.{arith}
+use lib.ListN.{length, get_or, take}
+use lib.Seq.{length-take-le}
 use Rattle.lists.proofs.Parts.{flat_ext}
 use Rattle.texels.specs.declared.TexelFormat.{TexelFormat}
 use Rattle.texels.specs.declared.TexelFormat.TheVariants.{Alpha, Luminance, LuminanceAlpha, Rgb, Rgba, Rgb565, Rgba4444, Rgba5551}
@@ -39,3 +41,7 @@ table_image b t w high s table e =
 pub entry_four : (b : ℕ) (table : List (List ℕ)) (s : List ℕ) (at x : ℕ) → length (entry_at b table s at x) ≡ 4
 unfolding entry_at
 entry_four b table s at x = refl
+
+-- a loop past the first n of a list has come to n
+pub past_taken : {A : Type 0} (n i : ℕ) (l : List A) → length (take n l) ≤ i → n ≤ length l → n ≤ i
+past_taken n i l h k = omega (arith, length-take-le n l k)

@@ -60,3 +60,7 @@ entry table i =
 -- the x-th texel of the row whose indices stand in s from `at` on
 unfoldable pub entry_at : ℕ → List (List ℕ) → List ℕ → ℕ → ℕ → List ℕ
 entry_at b table s at x = entry table (index_at b s at x)
+
+-- the image whose rows of indices stand in s from `start` on
+abbrev pub indexed_image : ℕ → List (List ℕ) → ℕ → ℕ → List ℕ → ℕ → List ℕ
+indexed_image b table w h s start = image w h (λ x y. entry_at b table s (start + y * row_bytes b w) x)

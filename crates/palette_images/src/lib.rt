@@ -4,10 +4,11 @@
 ghost use Rattle.std.specs.Prelude.{◌≡◌, ◌+◌, ◌*◌, ◌/◌, ◌%◌, ◌^◌, ◌≤◌, ◌<◌, length};
 ghost use Rattle.std.proofs.Math.Seq.{paste};
 ghost use Rattle.lists.specs.Lists.{flat};
-ghost use Rattle.texels.specs.Image.{image};
 ghost use Rattle.texels.specs.Texels.{texel_bytes};
-ghost use Rattle.palette_images.specs.Paletted.{index_bits, bits_of, row_bytes, palette_bytes, paletted_bytes, index_in, paletted_image, Entries, entry_at};
+ghost use Rattle.texels.specs.Lent.{Same};
+ghost use Rattle.palette_images.specs.Paletted.{index_bits, bits_of, row_bytes, palette_bytes, paletted_bytes, index_in, paletted_image, Entries, entry_at, indexed_image};
 
+use texels::image::Image;
 use texels::*;
 
 // How many bits an index has: as many as divide a byte's.
@@ -25,6 +26,7 @@ impl TryFrom<usize> for IndexBits {
 
     ghost try_from_gives = { λ n r. r ≡ bits_of n };
 
+    // Kept: a trait has one impl for a type, and each type has its own codes. (2c)
     #[tactic(auto, using(std::proofs::lemmas::Bool::Decides::nat_tests), unfolding(crate::specs::Paletted::bits_of))]
     fn try_from(n: usize) -> Result<Self, usize> {
         Ok(match n {
@@ -86,6 +88,7 @@ impl IndexBits {
 #[derive(Drop, Debug, PartialEq, Eq)]
 struct Palette {
     bits: IndexBits,
+    // Kept: no heap, so there is room for the entries of eight bits, whatever the width. (6)
     entries: [[u8; 4]; 256],
 }
 
@@ -99,42 +102,51 @@ impl Palette {
     {
         let bytes = t.bytes();
         let mut entries = [[0u8; 4]; 256];
-        for i in 0..bits.entries() {
-            entries[i] = t.read(s, i * bytes);
+        for (i, entry) in entries[..bits.entries()].iter_mut().enumerate() {
+            *entry = t.read(s, i * bytes);
         }
         Palette { bits, entries }
     }
 
-    // A row of texels, whose indices stand in s from `at` on.
-    fn put_row(&self, s: &[u8], at: usize, out: &mut [u8], to: usize, sides: Sides)
-        requires { (at + row_bytes (index_bits self.now.bits) sides.w ≤ length s.now) × (to + sides.w * 4 ≤ length out.old) }
-        ensures { out.new ≡ paste out.old to (flat sides.w (entry_at (index_bits self.now.bits) self.now.entries s.now at)) (sides.w * 4) }
+    // Row y, whose indices stand in s from `at` on.
+    // Kept: only put_rows shares them; compressed's decode_image has another self, a format. (5c)
+    fn put_row(&self, s: &[u8], at: usize, image: &mut Image, y: usize)
+        requires { (at + row_bytes (index_bits self.now.bits) image.old.sides.w ≤ length s.now) × (y < image.old.sides.h) }
+        ensures drawn { image.new.out.now ≡ paste image.old.out.now (y * (image.old.sides.w * 4)) (flat image.old.sides.w (entry_at (index_bits self.now.bits) self.now.entries s.now at)) (image.old.sides.w * 4) }
+        // Kept: a fact of the type cannot speak of the image as it was. (5b)
+        ensures same { Same image.old image.new }
     {
         let bits = self.bits.bits();
+        let w = image.sides.w;
         // Kept: by index, since of a texel that chunks_exact_mut has lent out a proof knows the length alone, as in texels::fill. (3d)
-        for x in 0..sides.w {
+        for x in 0..w {
             let [r, g, b, a] = self.entries[self.bits.index_in(s[at + x * bits / 8], x)];
-            put4(out, to + x * 4, [r, g, b, a]);
+            put4(image.out, (y * w + x) * 4, [r, g, b, a]);
         }
     }
 
     // All rows, whose indices stand in s from `start` on.
-    fn put_rows(&self, s: &[u8], start: usize, out: &mut [u8], sides: Sides)
-        requires { (start + sides.h * row_bytes (index_bits self.now.bits) sides.w ≤ length s.now) × (length out.old ≡ sides.h * (sides.w * 4)) }
-        ensures { out.new ≡ image sides.w sides.h (λ x y. entry_at (index_bits self.now.bits) self.now.entries s.now (start + y * row_bytes (index_bits self.now.bits) sides.w) x) }
+    // Kept: as put_row. (5c)
+    fn put_rows(&self, s: &[u8], start: usize, image: &mut Image)
+        requires { start + image.old.sides.h * row_bytes (index_bits self.now.bits) image.old.sides.w ≤ length s.now }
+        ensures drawn { image.new.out.now ≡ indexed_image (index_bits self.now.bits) self.now.entries image.old.sides.w image.old.sides.h s.now start }
+        // Kept: a fact of the type cannot speak of the image as it was. (5b)
+        ensures same { Same image.old image.new }
     {
-        let row = row_bytes(self.bits.bits(), sides.w);
+        let row = row_bytes(self.bits.bits(), image.sides.w);
         // Kept: as in put_row. (3d)
-        for y in 0..sides.h {
-            self.put_row(s, start + y * row, out, y * (sides.w * 4), sides);
+        for y in 0..image.sides.h {
+            self.put_row(s, start + y * row, image, y);
         }
     }
 }
 
-pub fn decode_paletted(bits: IndexBits, t: TexelFormat, s: &[u8], out: &mut [u8], sides: Sides)
-    requires { (paletted_bytes (index_bits bits) t sides.w sides.h ≤ length s.now) × (length out.old ≡ sides.h * sides.w * 4) }
-    ensures { out.new ≡ paletted_image (index_bits bits) t sides.w sides.h s.now }
+pub fn decode_paletted(bits: IndexBits, t: TexelFormat, s: &[u8], image: &mut Image)
+    requires { paletted_bytes (index_bits bits) t image.old.sides.w image.old.sides.h ≤ length s.now }
+    ensures drawn { image.new.out.now ≡ paletted_image (index_bits bits) t image.old.sides.w image.old.sides.h s.now }
+    // Kept: a fact of the type cannot speak of the image as it was. (5b)
+    ensures same { Same image.old image.new }
 {
     let palette = Palette::new(bits, t, s);
-    palette.put_rows(s, bits.entries() * t.bytes(), out, sides);
+    palette.put_rows(s, bits.entries() * t.bytes(), image);
 }

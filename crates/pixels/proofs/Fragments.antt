@@ -8,21 +8,21 @@ use Prim.Native.Nat.{ℕ}
 use lib.Ieee.{Float}
 use Rattle.std.proofs.lemmas.Option.{none-some, cond_some, some_pair_parts}
 use Rattle.lists.specs.Lists.{iter}
-use Rattle.lists.proofs.Choice.{stay, leave, was_false, was_true, was_not, was_so}
+use Rattle.lists.proofs.Choice.{stay, leave, was_false, was_true}
 use Rattle.settings.specs.declared.Rgba.{Rgba}
 use Rattle.settings.specs.declared.PipelineState.{PipelineState}
-use Rattle.fragment.specs.Fragment.{depth_passes, alpha_passes, fogged_of}
+use Rattle.fragment.specs.Fragment.{alpha_passes, fogged_of}
 use Rattle.gradients.specs.declared.PerCorner.{PerCorner}
 use Rattle.coverage.specs.declared.Primitive.{Primitive}
-use Rattle.coverage.specs.Coverage.{depth_at, inv_w_at, usable, color_of}
+use Rattle.coverage.specs.Coverage.{depth_at, inv_w_at, color_of}
 use Rattle.stages.specs.Stages.{stages_color}
 use Rattle.pixels.specs.Way.{Drawing, drawing, reaches, shares, shaded_of, fog_depth_of, finished, fragment_of}
 
 -- ---- without a stage
 
 -- the colour between the corners stays
-pub unstaged : (s : PipelineState) (t : Primitive) (w : PerCorner)
-    → color_of s.smooth_shading (shares t w) t.a.color t.b.color t.c.color ≡ shaded_of [] (drawing s [] 0 []) t w
+pub unstaged : (s : PipelineState) (t : Primitive) (w : PerCorner Float)
+    → color_of s.smooth_shading (shares t w) t.vertices.a.color t.vertices.b.color t.vertices.c.color ≡ shaded_of [] (drawing s [] 0 []) t w
 unfolding shaded_of stages_color iter
 unstaged s t w = refl
 
@@ -32,7 +32,7 @@ flat_is false true e h = absurd (true≢false (sym h ∙ e))
 flat_is false false e h = (refl, refl)
 
 -- a flat colour needs no weights, and without fog no fog depth
-module _ (s : PipelineState) (t : Primitive) (w p : PerCorner) (z : Float) (c : Rgba) (k : c ≡ color_of false p t.a.color t.b.color t.c.color)
+module _ (s : PipelineState) (t : Primitive) (w p : PerCorner Float) (z : Float) (c : Rgba) (k : c ≡ color_of false p t.vertices.a.color t.vertices.b.color t.vertices.c.color)
     (e : s.smooth_shading ≡ false) (f : s.fog ≡ false) {x : Bool} (a : x ≡ alpha_passes s c.a) where
   flat_finished : cond (alpha_passes s c.a) (Some (z, c)) None ≡ finished s z (fog_depth_of t w) (shaded_of [] (drawing s [] 0 []) t w)
   unfolding finished fogged_of color_of
@@ -44,7 +44,7 @@ module _ (s : PipelineState) (t : Primitive) (w p : PerCorner) (z : Float) (c : 
   pub flat_kept : not x ≡ false → Some (z, c) ≡ finished s z (fog_depth_of t w) (shaded_of [] (drawing s [] 0 []) t w)
   flat_kept h = stay None a h refl ∙ flat_finished
 
-module _ (store : List ℕ) (d : Drawing) (t : Primitive) (w : PerCorner) (stored : Float) where
+module _ (store : List ℕ) (d : Drawing) (t : Primitive) (w : PerCorner Float) (stored : Float) where
   -- its depth and 1/w, if it reaches the stages
   abbrev pub reach : Option (Float × Float)
   reach = cond (reaches d.state t w stored) (Some (depth_at t.raster w, inv_w_at t.raster w)) None

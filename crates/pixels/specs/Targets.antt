@@ -1,5 +1,5 @@
 -- What a draw writes: colours, depths and a count, in memory that stays where it is.
-use Rattle.std.specs.Prelude.{ℕ, ◌*◌, ◌≡◌, ◌≤◌, length}
+use Rattle.std.specs.Prelude.{◌*◌, ◌≡◌, ◌≤◌, length}
 use Rattle.scissor.specs.declared.PixelBox.{PixelBox}
 use Rattle.frames.specs.Gather.{Drawn}
 use Rattle.pixels.specs.declared.target.Target.{Target}

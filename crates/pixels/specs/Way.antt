@@ -29,31 +29,31 @@ drawing s l n xs = record { state = s; stages = l; count = n; textures = xs }
 -- ---- a fragment from its weights, so that another rule of coverage can use it
 
 -- whether a fragment gets as far as its stages: its depth passes, and 1/w can be used
-unfoldable pub reaches : PipelineState → Primitive → PerCorner → Float → Bool
+unfoldable pub reaches : PipelineState → Primitive → PerCorner Float → Float → Bool
 reaches s t w stored = cond (depth_passes s (depth_at t.raster w) stored) (usable (inv_w_at t.raster w)) false
 
 -- 1 / (interpolated 1/w)
-abbrev pub rec_of : Primitive → PerCorner → Float
+abbrev pub rec_of : Primitive → PerCorner Float → Float
 rec_of t w = one32 ⊘ inv_w_at t.raster w
 
-abbrev pub shares : Primitive → PerCorner → PerCorner
+abbrev pub shares : Primitive → PerCorner Float → PerCorner Float
 shares t w = shares_of t.raster w (rec_of t w)
 
 -- its colour after the stages
-unfoldable pub shaded_of : List ℕ → Drawing → Primitive → PerCorner → Rgba
+unfoldable pub shaded_of : List ℕ → Drawing → Primitive → PerCorner Float → Rgba
 shaded_of store d t w =
     stages_color store d.stages d.count d.textures t w (rec_of t w)
-    (color_of d.state.smooth_shading (shares t w) t.a.color t.b.color t.c.color)
+    (color_of d.state.smooth_shading (shares t w) t.vertices.a.color t.vertices.b.color t.vertices.c.color)
 
 -- its fog depth
-unfoldable pub fog_depth_of : Primitive → PerCorner → Float
-fog_depth_of t w = sum_of (shares t w) (per_corner t.a.fog_depth t.b.fog_depth t.c.fog_depth)
+unfoldable pub fog_depth_of : Primitive → PerCorner Float → Float
+fog_depth_of t w = sum_of (shares t w) (per_corner t.vertices.a.fog_depth t.vertices.b.fog_depth t.vertices.c.fog_depth)
 
 -- past the stages: the alpha test, then fog
 unfoldable pub finished : PipelineState → Float → Float → Rgba → Std.Option (Float × Rgba)
 finished s z fogDepth c = cond (alpha_passes s c.a) (Std.Some (z, fogged_of s fogDepth c)) Std.None
 
-unfoldable pub fragment_of : List ℕ → Drawing → Primitive → PerCorner → Float → Std.Option (Float × Rgba)
+unfoldable pub fragment_of : List ℕ → Drawing → Primitive → PerCorner Float → Float → Std.Option (Float × Rgba)
 fragment_of store d t w stored =
     cond (reaches d.state t w stored)
     (finished d.state (depth_at t.raster w) (fog_depth_of t w) (shaded_of store d t w))

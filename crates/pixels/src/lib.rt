@@ -11,7 +11,7 @@ ghost use Rattle.frames.specs.State.{pixel_at};
 ghost use Rattle.frames.specs.Gather.{put_color, put_pixel};
 ghost use Rattle.coverage.specs.declared.Primitive.{Primitive};
 ghost use Rattle.pixels.specs.Way.{Drawing, drawing, finished, fragment_of, written_of, pixel_of, reaches};
-ghost use Rattle.coverage.specs.Coverage.{depth_at, inv_w_at};
+ghost use Rattle.coverage.specs.Coverage.{color_of, depth_at, inv_w_at};
 ghost use Rattle.pixels.specs.Targets.{drawn_on, Same};
 ghost use Rattle.std.proofs.Math.Option.{some};
 
@@ -20,6 +20,7 @@ use gradients::PerCorner;
 use settings::{BlendFactor, PipelineState, Rgba};
 use stages::Stages;
 use target::Target;
+use vertices::Vertex;
 
 // What a draw makes of a pixel. A draw without a stage carries no record and no texel along, and one of a single colour makes its bytes once.
 pub trait Paint {
@@ -36,14 +37,13 @@ pub trait Paint {
 
     // The fragment at a pixel's weights; stored is the pixel's depth.
     // Kept: a struct of triangle and weights would be made at each pixel, and taken apart again by each paint (5c)
-    fn fragment_at(&self, t: Primitive, w: PerCorner, stored: f32) -> Option<(f32, Rgba)>
+    fn fragment_at(&self, t: Primitive, w: PerCorner<f32>, stored: f32) -> Option<(f32, Rgba)>
         ensures { result ≡ fragment_of (store self.now) (drawing self.now) t w stored };
 
     // One pixel of a triangle.
-    // Kept: the body for every paint but Solid's, which puts bytes that are made once and has no colour to convert (2c, 5c)
+    // Kept: the body of every paint but Solid's, whose bytes are made once; a put of its own, with the rest once, would have to ask that the colour is the fragment's, which each caller would owe at each pixel; what is repeated is weights, fragment and count (2c, 5c)
     fn draw_pixel(&self, target: &mut Target, t: Primitive, py: u32, px: u32)
         requires paints { paints self.now t }
-        // Kept: a type with the bound of a row or column would be made at each pixel (5a)
         requires bounds { (px < 4096) × (py < 4096) × (target.old.written ≤ 1000000000000) }
         requires inside { py * target.old.width + px < length target.old.depths.now }
         ensures drawn { drawn_on target.new ≡ pixel_of (store self.now) (drawing self.now) t target.old.width py px (drawn_on target.old) }
@@ -66,7 +66,12 @@ pub trait Paint {
 // Kept: as fragment_at (5c)
 #[tactic(auto, unfolding(crate::specs::Way::reaches))]
 #[inline(always)]
-pub fn reached(state: PipelineState, t: Primitive, w: PerCorner, stored: f32) -> Option<(f32, f32)>
+pub fn reached(
+    state: PipelineState,
+    t: Primitive,
+    w: PerCorner<f32>,
+    stored: f32,
+) -> Option<(f32, f32)>
     ensures { result ≡ cond (reaches state t w stored) (Some (depth_at t.raster w, inv_w_at t.raster w)) None }
 {
     let z = coverage::depth_at(t.raster, w);
@@ -80,17 +85,22 @@ pub fn reached(state: PipelineState, t: Primitive, w: PerCorner, stored: f32) ->
     Some((z, iw))
 }
 
-pub fn fog_depth_at(p: PerCorner, t: Primitive) -> f32
-    ensures { result ≡ sum_of p (per_corner t.a.fog_depth t.b.fog_depth t.c.fog_depth) }
+// The colour between the corners, or the last corner's.
+pub fn color_between(smooth: bool, p: PerCorner<f32>, t: Primitive) -> Rgba
+    ensures { result ≡ color_of smooth p t.vertices.a.color t.vertices.b.color t.vertices.c.color }
 {
-    gradients::weighted_sum(
-        p,
-        PerCorner {
-            a: t.a.fog_depth,
-            b: t.b.fog_depth,
-            c: t.c.fog_depth,
-        },
-    )
+    let colors = t.vertices.map(
+        |v: Vertex| -> [f32; 4]
+            ensures { result ≡ v.color }
+        { v.color },
+    );
+    coverage::color_at(smooth, p, colors)
+}
+
+pub fn fog_depth_at(p: PerCorner<f32>, t: Primitive) -> f32
+    ensures { result ≡ sum_of p (per_corner t.vertices.a.fog_depth t.vertices.b.fog_depth t.vertices.c.fog_depth) }
+{
+    gradients::weighted_sum(p, t.vertices.map(|v| v.fog_depth))
 }
 
 // Past the stages: the alpha test, then fog. A fragment that is kept has its depth and colour.
@@ -104,23 +114,20 @@ pub fn finish(state: PipelineState, z: f32, fog_depth: f32, c: Rgba) -> Option<(
     Some((z, fragment::fogged(state, fog_depth, c)))
 }
 
-// A colour blended over the pixel's bytes from k on. Its channels come one by one, so that they stay in registers.
+// A colour blended over the pixel's bytes from k on.
 pub fn blended(
     colors: &[u8],
     k: usize,
     src_factor: BlendFactor,
     dst_factor: BlendFactor,
-    r: f32,
-    g: f32,
-    b: f32,
-    a: f32,
+    c: Rgba,
 ) -> Rgba
     // Kept: a caller that cut four bytes out would owe the same bound there (5a)
     requires { k + 4 ≤ length colors.now }
-    ensures { result ≡ blend_of src_factor dst_factor (record { r = r; g = g; b = b; a = a }) (units_of (get_or colors.now k 0) (get_or colors.now (k + 1) 0) (get_or colors.now (k + 2) 0) (get_or colors.now (k + 3) 0)) }
+    ensures { result ≡ blend_of src_factor dst_factor c (units_of (get_or colors.now k 0) (get_or colors.now (k + 1) 0) (get_or colors.now (k + 2) 0) (get_or colors.now (k + 3) 0)) }
 {
     let dst = fragment::to_units(colors[k], colors[k + 1], colors[k + 2], colors[k + 3]);
-    fragment::blend(src_factor, dst_factor, Rgba { r, g, b, a }, dst)
+    fragment::blend(src_factor, dst_factor, c, dst)
 }
 
 // Inlined into each paint's loop.
@@ -131,10 +138,9 @@ pub fn write_color(colors: &mut [u8], i: usize, state: PipelineState, c: Rgba)
     ensures { colors.new ≡ put_color colors.old i (written_of state nan c (pixel_at colors.old [] i)) }
 {
     let mask = state.color_mask;
+    // Kept: with one put_color behind an if and else the colour goes through memory: a smooth pixel took 37 ns for 29, a clipped one 61 for 51 (2)
     if state.blend {
-        let src_factor = state.blend_src;
-        let dst_factor = state.blend_dst;
-        let out = blended(colors, i * 4, src_factor, dst_factor, c.r, c.g, c.b, c.a);
+        let out = blended(colors, i * 4, state.blend_src, state.blend_dst, c);
         fragment::put_color(colors, i * 4, mask, out);
         return;
     }
@@ -164,7 +170,7 @@ pub fn write_pixel(target: &mut Target, i: usize, state: PipelineState, z: f32, 
 }
 
 // A draw with its stages.
-#[derive(Clone, Copy)]
+#[derive(Clone, Copy, Debug, PartialEq)]
 pub struct Staged<'a> {
     pub state: PipelineState,
     pub stages: Stages<'a>,
@@ -173,7 +179,7 @@ pub struct Staged<'a> {
 impl Paint for Staged<'_> {
     ghost store = { λ s. s.stages.store.now };
 
-    ghost drawing = { λ s. drawing s.state s.stages.stages s.stages.count s.stages.textures.now };
+    ghost drawing = { λ s. drawing s.state s.stages.stages.now (length s.stages.stages.now) s.stages.textures.now };
 
     ghost paints = { λ _ _. Unit {0} };
 
@@ -182,20 +188,19 @@ impl Paint for Staged<'_> {
         self.state
     }
 
-    // Kept: an impl repeats its trait's head; what is alike stands in reached and finish (2c, 5c)
-    fn fragment_at(&self, t: Primitive, w: PerCorner, stored: f32) -> Option<(f32, Rgba)> {
+    // Kept: an impl repeats its trait's head; what is alike stands in reached, color_between, fog_depth_at and finish (5c)
+    fn fragment_at(&self, t: Primitive, w: PerCorner<f32>, stored: f32) -> Option<(f32, Rgba)> {
         let state = self.state;
         let (z, iw) = reached(state, t, w, stored)?;
         let rec = 1.0 / iw;
         let p = coverage::shares_of(t.raster, w, rec);
-        let a = t.a.color;
-        let b = t.b.color;
-        let c = t.c.color;
-        let color = coverage::color_at(state.smooth_shading, p, a, b, c);
+        let color = color_between(state.smooth_shading, p, t);
         let fog_depth = fog_depth_at(p, t);
-        if self.stages.count == 1 {
-            return finish(state, z, fog_depth, self.stages.first(t, w, rec, color));
-        }
-        finish(state, z, fog_depth, self.stages.color(t, w, rec, color))
+        let color = if self.stages.stages.len() == 1 {
+            self.stages.first(t, w, rec, color)
+        } else {
+            self.stages.color(t, w, rec, color)
+        };
+        finish(state, z, fog_depth, color)
     }
 }

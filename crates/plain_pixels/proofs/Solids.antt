@@ -1,6 +1,6 @@
 -- A pixel of a triangle of one colour. Assumes nothing.
 use Rattle.std.proofs.lemmas.Bool.{false≢true}
-use Rattle.std.specs.Prelude.{Some, None}
+use Rattle.std.specs.Prelude.{Some}
 use Rattle.std.proofs.lemmas.Option.{none-some, some_pair_parts}
 use mathlib.Core.Path.{◌≡◌, refl, sym, ◌∙◌}
 use mathlib.Core.Bool.{Bool, true, false, cond}
@@ -53,20 +53,20 @@ solid_is s e =
     record { flat = a.0; clear = b.0; opaque = c.0; untested = d.0; red = f.0; green = g.0; blue = h.0; alpha = h.1 }
 
 -- the fragment, at any weights: its depth, and the last corner's colour
-module _ (s : PipelineState) (t : Primitive) (w : PerCorner) (stored : Float) (e : solid_of s ≡ true) where
+module _ (s : PipelineState) (t : Primitive) (w : PerCorner Float) (stored : Float) (e : solid_of s ≡ true) where
   untested_passes : (alpha : Float) → true ≡ alpha_passes s alpha
   unfolding alpha_passes
   untested_passes alpha = rw (solid_is s e).untested
 
-  solid_finished : Some (depth_at t.raster w, color_of false w t.a.color t.b.color t.c.color) ≡ finished s (depth_at t.raster w) (fog_depth_of t w) (shaded_of [] (drawing s [] 0 []) t w)
+  solid_finished : Some (depth_at t.raster w, color_of false w t.vertices.a.color t.vertices.b.color t.vertices.c.color) ≡ finished s (depth_at t.raster w) (fog_depth_of t w) (shaded_of [] (drawing s [] 0 []) t w)
   solid_finished = let f = solid_is s e in flat_kept s t w w (depth_at t.raster w) _ refl f.flat f.clear (untested_passes _) refl
 
   pub solid_fragment : {z iw : Float} → reach [] (drawing s [] 0 []) t w stored ≡ Some (z, iw)
-      → Some (depth_at t.raster w, color_of false w t.a.color t.b.color t.c.color) ≡ fragment_of [] (drawing s [] 0 []) t w stored
+      → Some (depth_at t.raster w, color_of false w t.vertices.a.color t.vertices.b.color t.vertices.c.color) ≡ fragment_of [] (drawing s [] 0 []) t w stored
   solid_fragment h = solid_finished ∙ reached [] (drawing s [] 0 []) t w stored h
 
   -- and no other
-  pub solid_only : {z : Float} {k : Rgba} → fragment_of [] (drawing s [] 0 []) t w stored ≡ Some (z, k) → k ≡ color_of false w t.a.color t.b.color t.c.color
+  pub solid_only : {z : Float} {k : Rgba} → fragment_of [] (drawing s [] 0 []) t w stored ≡ Some (z, k) → k ≡ color_of false w t.vertices.a.color t.vertices.b.color t.vertices.c.color
   unfolding fragment_of
   solid_only {z = z} {k = k} h =
       sym (some_pair_parts _ _ _ _ (solid_finished ∙ (was_true (reaches s t w stored) h (none-some (z, k))).1)).1
@@ -75,11 +75,11 @@ module _ (s : PipelineState) (t : Primitive) (width py px : ℕ) (cs : List ℕ)
   abbrev at : ℕ
   at = py * width + px
 
-  abbrev w : PerCorner
+  abbrev w : PerCorner Float
   w = weights_of t.raster px py
 
   solid_colors : set (set (set (set cs (at * 4) (get_or (solid_color t) 0 0)) (at * 4 + 1) (get_or (solid_color t) 1 0)) (at * 4 + 2) (get_or (solid_color t) 2 0)) (at * 4 + 3) (get_or (solid_color t) 3 0)
-      ≡ put_color cs at (written_of s nan (color_of false w t.a.color t.b.color t.c.color) (pixel_at cs [] at))
+      ≡ put_color cs at (written_of s nan (color_of false w t.vertices.a.color t.vertices.b.color t.vertices.c.color) (pixel_at cs [] at))
   unfolding put_color written_of blended_of solid_color color_of
   solid_colors = let f = solid_is s e in rw (f.opaque, f.red, f.green, f.blue, f.alpha)
 

@@ -16,4 +16,4 @@ solid_of s = cond s.smooth_shading false (cond s.fog false (cond s.blend false (
 -- the bytes of the last corner's colour
 unfoldable pub solid_color : Primitive → List ℕ
 solid_color t =
-    byte_of (get_or t.c.color 0 nan) ∷ byte_of (get_or t.c.color 1 nan) ∷ byte_of (get_or t.c.color 2 nan) ∷ byte_of (get_or t.c.color 3 nan) ∷ []
+    byte_of (get_or t.vertices.c.color 0 nan) ∷ byte_of (get_or t.vertices.c.color 1 nan) ∷ byte_of (get_or t.vertices.c.color 2 nan) ∷ byte_of (get_or t.vertices.c.color 3 nan) ∷ []

@@ -18,27 +18,24 @@ fn is_flat(state: PipelineState) -> bool
 }
 
 // The fragment at a pixel's weights; stored is the pixel's depth.
-// Kept: without a stage no record is handed on, and a flat colour needs no weights; what is alike stands in reached and finish (2c, 5c)
+// Kept: without a stage no record is handed on, and a flat colour needs no weights; what is alike stands in reached, color_between, fog_depth_at and finish (5c)
 pub fn fragment_at(
     state: PipelineState,
     t: Primitive,
-    w: PerCorner,
+    w: PerCorner<f32>,
     stored: f32,
 ) -> Option<(f32, Rgba)>
     ensures { result ≡ fragment_of [] (drawing state [] 0 []) t w stored }
 {
     let (z, iw) = pixels::reached(state, t, w, stored)?;
-    let a = t.a.color;
-    let b = t.b.color;
-    let c = t.c.color;
     if is_flat(state) {
-        let flat = coverage::color_at(false, w, a, b, c);
+        let flat = pixels::color_between(false, w, t);
         if !fragment::alpha_passes(state, flat.a) {
             return None;
         }
         return Some((z, flat));
     }
     let p = coverage::shares_of(t.raster, w, 1.0 / iw);
-    let color = coverage::color_at(state.smooth_shading, p, a, b, c);
+    let color = pixels::color_between(state.smooth_shading, p, t);
     pixels::finish(state, z, pixels::fog_depth_at(p, t), color)
 }

@@ -1,5 +1,6 @@
 // A pixel of a triangle of one colour, whose bytes are made once: a draw without a stage, under settings that leave the colour as it is.
-ghost use Rattle.std.specs.Prelude.{◌≡◌, true, [], ◌+◌, ◌*◌, ◌<◌, ◌≤◌, length, get_or, set};
+ghost use Rattle.std.specs.Prelude.{◌≡◌, true, false, []};
+ghost use Rattle.std.specs.Option.{MatchOption};
 ghost use Rattle.pixels.specs.Way.{drawing};
 ghost use Rattle.plain_pixels.specs.Solid.{all_on, solid_of, solid_color};
 
@@ -30,31 +31,28 @@ pub fn is_solid(state: PipelineState) -> bool
 pub fn solid_color(t: Primitive) -> [u8; 4]
     ensures { result ≡ solid_color t }
 {
-    let c = t.c.color;
-    [
-        channels::to_byte(c[0]),
-        channels::to_byte(c[1]),
-        channels::to_byte(c[2]),
-        channels::to_byte(c[3]),
-    ]
-}
-
-fn put_bytes(colors: &mut [u8], k: usize, color: [u8; 4])
-    requires { k + 3 < length colors.old }
-    ensures { colors.new ≡ set (set (set (set colors.old k (get_or color 0 0)) (k + 1) (get_or color 1 0)) (k + 2) (get_or color 2 0)) (k + 3) (get_or color 3 0) }
-{
-    colors[k] = color[0];
-    colors[k + 1] = color[1];
-    colors[k + 2] = color[2];
-    colors[k + 3] = color[3];
+    t.vertices.c.color.map(channels::to_byte)
 }
 
 // Such a draw, with the bytes of a triangle's colour.
-#[derive(Clone, Copy)]
+#[derive(Clone, Copy, Debug, PartialEq)]
 pub struct Solid {
     pub state: PipelineState,
     pub color: [u8; 4],
     pub ghost solid: { solid_of state ≡ true },
+}
+
+impl Solid {
+    // The draw of a triangle, if its settings leave the colour as it is.
+    pub fn new(state: PipelineState, t: Primitive) -> Option<Solid>
+        ensures { MatchOption result (solid_of state ≡ false) (λ s. (s.state ≡ state) × (s.color ≡ solid_color t)) }
+    {
+        if !is_solid(state) {
+            return None;
+        }
+        let color = solid_color(t);
+        Some(Solid { state, color })
+    }
 }
 
 impl Paint for Solid {
@@ -69,16 +67,13 @@ impl Paint for Solid {
         self.state
     }
 
-    // Kept: an impl repeats its trait's head; what is alike stands in reached (2c, 5c)
-    fn fragment_at(&self, t: Primitive, w: PerCorner, stored: f32) -> Option<(f32, Rgba)> {
+    // Kept: an impl repeats its trait's head; what is alike stands in reached and color_between (5c)
+    fn fragment_at(&self, t: Primitive, w: PerCorner<f32>, stored: f32) -> Option<(f32, Rgba)> {
         let (z, _) = pixels::reached(self.state, t, w, stored)?;
-        let a = t.a.color;
-        let b = t.b.color;
-        let c = t.c.color;
-        Some((z, coverage::color_at(false, w, a, b, c)))
+        Some((z, pixels::color_between(false, w, t)))
     }
 
-    // Kept: it puts bytes that are made once, where the trait's own body converts, masks and blends a colour (2c, 5c)
+    // Kept: its bytes are made once; a put of its own, with the rest once, would have to ask that the colour is the fragment's, which each caller would owe at each pixel; what is repeated is weights, fragment and count (2c, 5c)
     fn draw_pixel(&self, target: &mut Target, t: Primitive, py: u32, px: u32) {
         let w = coverage::weights_at(t.raster, px, py);
         if !coverage::is_covered(w) {
@@ -88,7 +83,7 @@ impl Paint for Solid {
         let Some((z, _)) = self.fragment_at(t, w, target.depths[i]) else {
             return;
         };
-        put_bytes(target.colors, i * 4, self.color);
+        texels::put4(target.colors, i * 4, self.color);
         pixels::write_depth(target.depths, i, self.state, z);
         target.written += 1;
     }

@@ -8,13 +8,13 @@ use coverage::Primitive;
 use gradients::PerCorner;
 use pixels::Paint;
 use pixels::target::Target;
-use plain_pixels::solid::{self, Solid};
+use plain_pixels::solid::Solid;
 use raster::Draw;
 use scissor::PixelBox;
 use settings::{PipelineState, Rgba};
 
 // A draw without a stage.
-#[derive(Clone, Copy)]
+#[derive(Clone, Copy, Debug, PartialEq)]
 pub struct Plain {
     pub state: PipelineState,
 }
@@ -32,7 +32,7 @@ impl Paint for Plain {
     }
 
     // Kept: an impl repeats its trait's head (5c)
-    fn fragment_at(&self, t: Primitive, w: PerCorner, stored: f32) -> Option<(f32, Rgba)> {
+    fn fragment_at(&self, t: Primitive, w: PerCorner<f32>, stored: f32) -> Option<(f32, Rgba)> {
         plain_pixels::fragment_at(self.state, t, w, stored)
     }
 }
@@ -42,9 +42,8 @@ impl Draw for Plain {
     // Kept: an impl repeats its trait's head (5c)
     fn fill_triangle(&self, target: &mut Target, t: Primitive, pixels: PixelBox) {
         let state = self.state;
-        if solid::is_solid(state) {
-            let color = solid::solid_color(t);
-            raster::fill(target, &Solid { state, color }, t, pixels);
+        if let Some(solid) = Solid::new(state, t) {
+            raster::fill(target, &solid, t, pixels);
             return;
         }
         raster::fill(target, self, t, pixels);

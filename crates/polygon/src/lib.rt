@@ -31,7 +31,8 @@ impl Model for Polygon {
 }
 
 impl Polygon {
-    // Kept: a public function, beside which no code asks for a Default; zeros, since 42 of any vertex but zeros are no plain fill. (4m)
+    // Kept: a public function, beside which no code asks for a Default; zeros, since no one reads what stands past len, and
+    // the ones of `Vertex::new()` would look like a corner's (4m)
     pub fn new() -> Self
         ensures { result ≡ [] }
     {

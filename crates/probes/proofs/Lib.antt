@@ -2,3 +2,4 @@ pub mod Defaults
 pub mod Each
 pub mod Mapped
 pub mod Next
+pub mod Steps

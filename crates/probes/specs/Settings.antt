@@ -1,13 +1,13 @@
 -- How the probes hand over codes.
-use Rattle.std.specs.Prelude.{ℕ, cond, eqb, Result, Ok, Err}
+use Rattle.std.specs.Prelude.{ℕ, Result, Ok, Err}
 use Rattle.settings.specs.declared.CompareFunc.{CompareFunc}
 use Rattle.settings.specs.declared.CompareFunc.TheVariants.{Never}
 use Rattle.settings.specs.declared.BlendFactor.{BlendFactor}
 use Rattle.settings.specs.declared.BlendFactor.TheVariants.{Zero}
 use Rattle.settings.specs.declared.TexEnvMode.{TexEnvMode}
-use Rattle.settings.specs.declared.TexEnvMode.TheVariants as E
 use Rattle.settings.specs.Settings.{read_compare, read_factor}
 use Rattle.answers.specs.declared.Refusal.{Refusal}
+use Rattle.replay.specs.Numbered as N
 
 abbrev pub compare_or : Result CompareFunc Refusal → CompareFunc
 compare_or (Ok f) = f
@@ -23,6 +23,6 @@ factor_or (Err why) = Zero
 abbrev pub factor_of : ℕ → BlendFactor
 factor_of code = factor_or (read_factor code)
 
-unfoldable pub environment_of : ℕ → TexEnvMode
-environment_of n =
-    cond (eqb n 1) E.Replace (cond (eqb n 2) E.Decal (cond (eqb n 3) E.Blend (cond (eqb n 4) E.Add E.Modulate)))
+-- as records have it too
+abbrev pub environment_of : ℕ → TexEnvMode
+environment_of n = N.environment_of n

@@ -5,9 +5,3 @@ mod probe_clip;
 mod probe_floats;
 mod probe_sampler;
 mod probe_settings;
-
-// A setting by the number that the comparison has for it.
-#[derive(Clone, Copy, Debug, PartialEq, Eq, Hash)]
-struct Code {
-    number: u32,
-}

@@ -1,5 +1,5 @@
 // The crates vertices, clip, setup and gradients. A polygon is 714 floats, seventeen a corner; a clause asks for those that are read.
-ghost use Rattle.std.specs.Prelude.{◌≡◌, [], ◌∷◌, ◌≤◌, length, get_or};
+ghost use Rattle.std.specs.Prelude.{◌≡◌, [], ◌∷◌, ◌≤◌, ◌<◌, length, get_or};
 ghost use Rattle.std.specs.Float.{nan};
 ghost use Rattle.std.proofs.lemmas.List.Edits.{sets};
 ghost use Rattle.vertices.specs.Vertex.{plane_at, distance, inside_frustum, lerp};
@@ -9,11 +9,11 @@ ghost use Rattle.setup.specs.Setup.{setup_of};
 ghost use Rattle.gradients.specs.Gradients.{derivatives_of, attribute_of};
 ghost use Rattle.probes.specs.Told.{view_from, range_from, box_from, face_of, cull_of, told, told_of, attribute_floats, floats_of, ends_of, corners_from};
 
-use crate::Code;
 use gradients::PerCorner;
+use replay::numbered::Code;
 use scissor::PixelBox;
 use screen::View;
-use settings::{CullMode, DepthRange, FrontFace};
+use settings::{DepthRange, FrontFace};
 use setup::Raster;
 use vertices::{Plane, Triangle};
 
@@ -59,40 +59,21 @@ pub extern "C" fn probe_clip_triangle(polygon: &mut [f32]) -> usize
     left.corners().len()
 }
 
-impl From<Code> for Option<CullMode> {
-    ghost from_gives = { λ code c. c ≡ cull_of code.number };
-
-    // Kept: a type has its own numbers, as the trait asks: one impl for a type. (2c)
-    fn from(code: Code) -> Option<CullMode> {
-        match code.number {
-            1 => Some(CullMode::Front),
-            2 => Some(CullMode::Back),
-            3 => Some(CullMode::FrontAndBack),
-            _ => None,
-        }
-    }
-}
-
 // x, y, z and 1/w of each corner, then 1/area; x0, y0, x1, y1 of its pixels.
-fn tell(done: Option<Raster>, out: &mut [f32], ends: &mut [u32]) -> bool
+fn tell(r: Raster, out: &mut [f32], ends: &mut [u32])
     requires { (13 ≤ length out.old) × (4 ≤ length ends.old) }
-    ensures { told result out.new ends.new ≡ told_of done out.old ends.old }
+    ensures { (out.new ≡ sets out.old 0 (floats_of r)) × (ends.new ≡ sets ends.old 0 (ends_of r.pixels)) }
 {
-    let Some(r) = done else {
-        return false;
-    };
     let Raster {
-        a,
-        b,
-        c,
+        corners,
         inv_area,
         pixels,
     } = r;
+    let PerCorner { a, b, c } = corners;
     out[..13].copy_from_slice(&[
         a.x, a.y, a.z, a.inv_w, b.x, b.y, b.z, b.inv_w, c.x, c.y, c.z, c.inv_w, inv_area,
     ]);
     ends[..4].copy_from_slice(&[pixels.x0, pixels.y0, pixels.x1, pixels.y1]);
-    true
 }
 
 // The first three corners made ready to fill: false, or the numbers in out and ends.
@@ -132,8 +113,23 @@ pub extern "C" fn probe_setup(
         c: polygon::corner(polygon, 2),
     };
     let cull = Option::from(Code { number: culled });
-    let done = setup::setup_triangle(view, range, front_face, cull, within, t);
-    tell(done, out, ends)
+    let Some(r) = setup::setup_triangle(view, range, front_face, cull, within, t) else {
+        return false;
+    };
+    tell(r, out, ends);
+    true
+}
+
+// Numbers at three places, one for each corner.
+fn corners_at(l: &[f32], i: usize, j: usize, k: usize) -> PerCorner<f32>
+    requires { (i < length l.now) × (j < length l.now) × (k < length l.now) }
+    ensures { result ≡ corners_from l.now i j k }
+{
+    PerCorner {
+        a: l[i],
+        b: l[j],
+        c: l[k],
+    }
 }
 
 // An attribute and its slopes: corners has what probe_setup told, and out begins with its values and weights.
@@ -143,36 +139,13 @@ pub extern "C" fn probe_attribute(corners: &[f32], reciprocal_q: f32, out: &mut 
     ensures { out.new ≡ sets out.old 0 (attribute_floats (attribute_of (corners_from out.old 0 1 2) (corners_from out.old 3 4 5) reciprocal_q (derivatives_of (corners_from corners.now 0 4 8) (corners_from corners.now 1 5 9) (corners_from corners.now 3 7 11) (get_or corners.now 12 nan)))) }
 {
     let d = gradients::derivatives(
-        PerCorner {
-            a: corners[0],
-            b: corners[4],
-            c: corners[8],
-        },
-        PerCorner {
-            a: corners[1],
-            b: corners[5],
-            c: corners[9],
-        },
-        PerCorner {
-            a: corners[3],
-            b: corners[7],
-            c: corners[11],
-        },
+        corners_at(corners, 0, 4, 8),
+        corners_at(corners, 1, 5, 9),
+        corners_at(corners, 3, 7, 11),
         corners[12],
     );
-    let r = gradients::perspective_attribute_with_gradients(
-        PerCorner {
-            a: out[0],
-            b: out[1],
-            c: out[2],
-        },
-        PerCorner {
-            a: out[3],
-            b: out[4],
-            c: out[5],
-        },
-        reciprocal_q,
-        d,
-    );
+    let values = corners_at(out, 0, 1, 2);
+    let weights = corners_at(out, 3, 4, 5);
+    let r = gradients::perspective_attribute_with_gradients(values, weights, reciprocal_q, d);
     out[..3].copy_from_slice(&[r.value, r.dx, r.dy]);
 }

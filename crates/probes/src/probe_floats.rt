@@ -6,6 +6,9 @@ ghost use Rattle.lists.specs.Lists.{tab};
 ghost use Rattle.floats.specs.Num.{min_of, max_of, clamp_of, abs_of, finite_of, bounded_of};
 ghost use Rattle.rounding.specs.Rounding.{floor_of, ceil_of, round_of, next_of};
 ghost use Rattle.channels.specs.Channel.{unit_of, byte_of, round_byte_of};
+ghost use Rattle.replay.specs.Numbered.{signed_of};
+
+use replay::numbered::Signed;
 
 #[unsafe(no_mangle)]
 pub extern "C" fn probe_min(a: f32, b: f32) -> f32
@@ -98,42 +101,36 @@ pub extern "C" fn probe_round(x: f32) -> f32
     rounding::round(x)
 }
 
-// A signed number is n, or -1 - n where the answer is true.
-fn told(z: i64, n: &mut u64) -> bool
-    ensures { cond result (negsuc n.new) (pos n.new) ≡ z }
-{
-    let from_zero = if z < 0 { !z } else { z };
-    *n = from_zero.unsigned_abs();
-    z < 0
-}
-
 #[unsafe(no_mangle)]
 pub extern "C" fn probe_saturating_i32(x: f32, n: &mut u64) -> bool
     ensures { cond result (negsuc n.new) (pos n.new) ≡ Ieee.to_signed 31 x }
 {
-    told(i64::from(std::num::saturating_f32_to_i32(x)), n)
+    let s = Signed::from(i64::from(std::num::saturating_f32_to_i32(x)));
+    *n = s.n;
+    s.below
 }
 
 #[unsafe(no_mangle)]
 pub extern "C" fn probe_saturating_i64(x: f32, n: &mut u64) -> bool
     ensures { cond result (negsuc n.new) (pos n.new) ≡ Ieee.to_signed 63 x }
 {
-    told(std::num::saturating_f32_to_i64(x), n)
+    let s = Signed::from(std::num::saturating_f32_to_i64(x));
+    *n = s.n;
+    s.below
 }
 
 // One more, up to `top`. Any u64 may come, so that the numbers need not fit an i64.
-// Kept: the C interface hands a number on as a flag and any u64, which an i64 need not hold (1o)
-fn next(below: bool, m: u64, top: u64, n: &mut u64) -> bool
-    ensures { cond result (negsuc n.new) (pos n.new) ≡ cond below (cond (nat_eq m 0) (pos 0) (negsuc (m - 1))) (pos (min (m + 1) top)) }
+fn next(s: Signed, top: u64) -> Signed
+    ensures { signed_of result ≡ cond s.below (cond (nat_eq s.n 0) (pos 0) (negsuc (s.n - 1))) (pos (min (s.n + 1) top)) }
 {
-    *n = if !below {
-        m.saturating_add(1).min(top)
-    } else if m == 0 {
-        0
-    } else {
-        m - 1
-    };
-    below && m != 0
+    Signed {
+        below: s.below && s.n != 0,
+        n: if s.below {
+            s.n.saturating_sub(1)
+        } else {
+            s.n.saturating_add(1).min(top)
+        },
+    }
 }
 
 // Kept: the signature is the C interface's (1o)
@@ -141,7 +138,9 @@ fn next(below: bool, m: u64, top: u64, n: &mut u64) -> bool
 pub extern "C" fn probe_next_i32(below: bool, m: u64, n: &mut u64) -> bool
     ensures { cond result (negsuc n.new) (pos n.new) ≡ next_of 31 (cond below (negsuc m) (pos m)) }
 {
-    next(below, m, 2147483647, n)
+    let s = next(Signed { below, n: m }, 2147483647);
+    *n = s.n;
+    s.below
 }
 
 // Kept: the signature is the C interface's (1o)
@@ -149,7 +148,9 @@ pub extern "C" fn probe_next_i32(below: bool, m: u64, n: &mut u64) -> bool
 pub extern "C" fn probe_next_i64(below: bool, m: u64, n: &mut u64) -> bool
     ensures { cond result (negsuc n.new) (pos n.new) ≡ next_of 63 (cond below (negsuc m) (pos m)) }
 {
-    next(below, m, 9223372036854775807, n)
+    let s = next(Signed { below, n: m }, 9223372036854775807);
+    *n = s.n;
+    s.below
 }
 
 #[unsafe(no_mangle)]

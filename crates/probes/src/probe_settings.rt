@@ -7,7 +7,7 @@ ghost use Rattle.fragment.specs.Fragment.{env_of, linear_fog_of, fog_mix_of, ble
 ghost use Rattle.settings.specs.Channels.{color_of, channels_of};
 ghost use Rattle.probes.specs.Settings.{compare_of, factor_of, environment_of};
 
-use crate::Code;
+use replay::numbered::Code;
 use settings::{BlendFactor, CompareFunc, PipelineState, Rgba, TexEnvMode, TextureStage};
 
 #[unsafe(no_mangle)]
@@ -17,22 +17,6 @@ pub extern "C" fn probe_test(code: u32, lhs: f32, rhs: f32) -> bool
     CompareFunc::try_from(code)
         .unwrap_or(CompareFunc::Never)
         .test(lhs, rhs)
-}
-
-impl From<Code> for TexEnvMode {
-    ghost from_gives = { λ code e. e ≡ environment_of code.number };
-
-    // Kept: a type has its own numbers, as the trait asks: one impl for a type. (2c)
-    #[tactic(auto, using(std::proofs::lemmas::Bool::Decides::nat_tests), unfolding(crate::specs::Settings::environment_of))]
-    fn from(code: Code) -> TexEnvMode {
-        match code.number {
-            1 => TexEnvMode::Replace,
-            2 => TexEnvMode::Decal,
-            3 => TexEnvMode::Blend,
-            4 => TexEnvMode::Add,
-            _ => TexEnvMode::Modulate,
-        }
-    }
 }
 
 #[unsafe(no_mangle)]
@@ -84,9 +68,11 @@ pub extern "C" fn probe_tex_env(
 pub extern "C" fn probe_fog_factor(start: f32, end: f32, depth: f32) -> f32
     ensures { result ≡ clamp_of (linear_fog_of start end depth) zero32 one32 }
 {
-    let mut s = PipelineState::new();
-    s.fog_start = start;
-    s.fog_end = end;
+    let s = PipelineState {
+        fog_start: start,
+        fog_end: end,
+        ..PipelineState::new()
+    };
     fragment::fog_factor(s, depth)
 }
 
@@ -102,11 +88,13 @@ pub extern "C" fn probe_fogged(
 )
     ensures { out.new ≡ channels_of (fog_mix_of (clamp_of (linear_fog_of start end depth) zero32 one32) (color_of fog_color.now) (color_of frag.now)) }
 {
-    let mut s = PipelineState::new();
-    s.fog = true;
-    s.fog_start = start;
-    s.fog_end = end;
-    s.fog_color = Rgba::from(*fog_color);
+    let s = PipelineState {
+        fog: true,
+        fog_start: start,
+        fog_end: end,
+        fog_color: Rgba::from(*fog_color),
+        ..PipelineState::new()
+    };
     *out = <[f32; 4]>::from(fragment::fogged(s, depth, Rgba::from(*frag)));
 }
 

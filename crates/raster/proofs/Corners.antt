@@ -97,11 +97,11 @@ plus_nan nan = refl
 plus_nan (inf s) = refl
 plus_nan (fin s m e) = refl
 
-nan_first : (w v : PerCorner) → w.a ≡ nan → sum_of w v ≡ nan
+nan_first : (w v : PerCorner Float) → w.a ≡ nan → sum_of w v ≡ nan
 unfolding sum_of Ieee.mul Ieee.add
 nan_first w v e = rw e
 
-nan_second : (w v : PerCorner) → w.b ≡ nan → sum_of w v ≡ nan
+nan_second : (w v : PerCorner Float) → w.b ≡ nan → sum_of w v ≡ nan
 unfolding sum_of Ieee.mul Ieee.add
 nan_second w v e = rw (e, plus_nan (w.a ⊗ v.a)) (plus_first (w.c ⊗ v.c))
   where
@@ -132,7 +132,7 @@ module _ (store : List ℕ) (d : Drawing) (t : Primitive) (b : Bool) (e : t.rast
   unfolding frag_at
   no_write px py old = go (ways px py)
     where
-      w : PerCorner
+      w : PerCorner Float
       w = weights_of t.raster px py
 
       either : fragment_of store d t w old.depth ≡ None → (k : Bool)

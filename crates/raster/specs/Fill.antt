@@ -20,10 +20,8 @@ unfoldable pub primitive_of : Raster → Vertex → Vertex → Vertex → Primit
 primitive_of r a b c =
     record {
       raster = r;
-      derivatives = derivatives_of (per_corner r.a.x r.b.x r.c.x) (per_corner r.a.y r.b.y r.c.y) (per_corner r.a.inv_w r.b.inv_w r.c.inv_w) r.inv_area;
-      a = a;
-      b = b;
-      c = c;
+      derivatives = derivatives_of (per_corner r.corners.a.x r.corners.b.x r.corners.c.x) (per_corner r.corners.a.y r.corners.b.y r.corners.c.y) (per_corner r.corners.a.inv_w r.corners.b.inv_w r.corners.c.inv_w) r.inv_area;
+      vertices = record { a = a; b = b; c = c };
     }
 
 -- the columns x0 to x1 of a row

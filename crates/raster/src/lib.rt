@@ -2,14 +2,12 @@
 #![tactic(auto)]
 
 ghost use Rattle.std.specs.Prelude.{◌≡◌, ◌+◌, ◌*◌, ◌-◌, ◌<◌, ◌≤◌, length, [], ◌∷◌};
-ghost use Rattle.pixels.specs.Way.{drawn_to};
 ghost use Rattle.pixels.specs.Targets.{drawn_on, Same, Holds};
 ghost use Rattle.clip.specs.Fan.{triangle_of, fan_of, draw_each};
 ghost use Rattle.clip.specs.Clip.{clipped};
 ghost use Rattle.raster.specs.Fill.{primitive_of, row_of, fill_of, raster_of, left_drawn};
 
 use coverage::Primitive;
-use gradients::PerCorner;
 use pixels::target::Target;
 use pixels::{Paint, Staged};
 use scissor::PixelBox;
@@ -18,44 +16,17 @@ use settings::PipelineState;
 use setup::Raster;
 use vertices::Triangle;
 
-// The pixels of a box, on a target so many pixels wide.
-#[derive(Clone, Copy, Debug, PartialEq, Eq)]
-pub struct Region {
-    pub pixels: PixelBox,
-    pub width: usize,
-    pub ghost inside: { (pixels.x1 ≤ width) × (pixels.y1 ≤ 4096) × (width ≤ 4096) },
-}
-
-// Kept: each reads another field; a closure for all three would be handed one more for each field (3f)
 #[tactic(auto, unfolding(crate::specs::Fill::primitive_of))]
-pub fn primitive(r: Raster, t: Triangle) -> Primitive
-    ensures { result ≡ primitive_of r t.a t.b t.c }
+pub fn primitive(raster: Raster, vertices: Triangle) -> Primitive
+    ensures { result ≡ primitive_of raster vertices.a vertices.b vertices.c }
 {
-    let derivatives = gradients::derivatives(
-        PerCorner {
-            a: r.a.x,
-            b: r.b.x,
-            c: r.c.x,
-        },
-        PerCorner {
-            a: r.a.y,
-            b: r.b.y,
-            c: r.c.y,
-        },
-        PerCorner {
-            a: r.a.inv_w,
-            b: r.b.inv_w,
-            c: r.c.inv_w,
-        },
-        r.inv_area,
-    );
-    // Kept: Primitive is no Triangle, so `..t` cannot give its corners (4j)
+    let of = raster.corners;
+    let (x, y, inv_w) = (of.map(|v| v.x), of.map(|v| v.y), of.map(|v| v.inv_w));
+    let derivatives = gradients::derivatives(x, y, inv_w, raster.inv_area);
     Primitive {
-        raster: r,
+        raster,
         derivatives,
-        a: t.a,
-        b: t.b,
-        c: t.c,
+        vertices,
     }
 }
 
@@ -63,7 +34,6 @@ pub fn primitive(r: Raster, t: Triangle) -> Primitive
 // Kept: a struct of triangle and target would be made anew for each row, to lend the target that it changes (5c)
 fn fill_row<P: Paint>(target: &mut Target, paint: &P, t: Primitive, x0: u32, x1: u32, py: u32)
     requires paints { P.paints paint.now t }
-    // Kept: py is one row of a loop, and a type with its bound would be made for each (5a)
     requires bounds { (x1 ≤ target.old.width) × (py < 4096) × (target.old.written ≤ 900000000000) }
     requires inside { py * target.old.width + target.old.width ≤ length target.old.depths.now }
     ensures drawn { drawn_on target.new ≡ row_of (P.store paint.now) (P.drawing paint.now) t target.old.width x0 x1 py (drawn_on target.old) }
@@ -146,21 +116,18 @@ fn draw_fan<D: Draw>(target: &mut Target, paint: &D, view: View, t: Triangle)
     ensures same { Same target.old target.new }
 {
     let polygon = clip::clip_triangle(t);
-    let corners = polygon.corners();
-    if corners.len() < 3 {
+    let Some((a, rest)) = polygon.corners().split_first() else {
         return;
-    }
-    let a = corners[0];
-    for i in 1..corners.len() - 1 {
-        let b = corners[i];
-        let c = corners[i + 1];
-        raster_clipped(target, paint, view, Triangle { a, b, c });
+    };
+    for pair in rest.array_windows::<2>() {
+        let [b, c] = *pair;
+        raster_clipped(target, paint, view, Triangle { a: *a, b, c });
     }
 }
 
 // All that clipping leaves of a triangle.
 // Kept: as raster_clipped (5c)
-fn draw_into<D: Draw>(target: &mut Target, paint: &D, view: View, t: Triangle)
+pub fn draw_into<D: Draw>(target: &mut Target, paint: &D, view: View, t: Triangle)
     requires { target.old.written ≡ 0 }
     ensures drawn { drawn_on target.new ≡ left_drawn (D.store paint.now) (D.drawing paint.now) view target.old.within target.old.width t.a t.b t.c (drawn_on target.old) }
     // Kept: a fact of the type cannot speak of the target as it was (5b)
@@ -171,28 +138,4 @@ fn draw_into<D: Draw>(target: &mut Target, paint: &D, view: View, t: Triangle)
         return;
     }
     draw_fan(target, paint, view, t);
-}
-
-// The same on colours and depths, in the pixels of a scissor's box. Answers the number of pixels written.
-// Kept: C lends colours and depths apart, and the target is made of them here (5c, 6c)
-pub fn draw_left<D: Draw>(
-    colors: &mut [u8],
-    depths: &mut [f32],
-    paint: &D,
-    view: View,
-    within: Region,
-    t: Triangle,
-) -> usize
-    requires { (within.pixels.y1 * within.width ≤ length depths.old) × (length colors.old ≡ 4 * length depths.old) }
-    ensures { drawn_to colors.new depths.new result ≡ left_drawn (D.store paint.now) (D.drawing paint.now) view within.pixels within.width t.a t.b t.c (drawn_to colors.old depths.old 0) }
-{
-    let mut target = Target {
-        colors,
-        depths,
-        width: within.width,
-        within: within.pixels,
-        written: 0,
-    };
-    draw_into(&mut target, paint, view, t);
-    target.written
 }

@@ -13,13 +13,14 @@ use settings::ScissorBox;
 // The pixels from `from` to `to`, of K elements each.
 // Kept: raster's fill walks a box's rows and draws a triangle's pixels there, and has the name alone in common (2c)
 fn fill<T: Copy, const K: usize>(items: &mut [T], from: usize, to: usize, value: [T; K])
-    // Kept: no caller's end is before its start, and without the clause the proofs would have that case too (5a)
+    // Kept: no caller's end is before its start, and a type of such pairs would be made for one clear (5a)
     requires { (from ≤ to) × (to * K ≤ length items.old) }
     ensures { (z : T) → items.new ≡ span_of (element_at K value z) z (from * K) (to * K) items.old }
 {
     // Kept: an index: of what `chunks_exact_mut(K)` lends a proof knows only the length, and `returns` stays open (3c)
     for pixel in from..to {
-        // Kept: `copy_from_slice` tests each pixel for overlap, by which a clear of depths takes four times as long (3c, 4k)
+        // Kept: `copy_from_slice` tests each pixel for overlap, by which a clear of depths takes four times as long; its bar is 1.0, and it
+        // stands at 0.95 to 1.01 (3c, 4k)
         for i in 0..K {
             items[pixel * K + i] = value[i];
         }
@@ -27,7 +28,7 @@ fn fill<T: Copy, const K: usize>(items: &mut [T], from: usize, to: usize, value:
 }
 
 fn fill_rows<T: Copy, const K: usize>(items: &mut [T], width: usize, b: PixelBox, value: [T; K])
-    // Kept: K = 0 would be a case of its own in each proof, and no caller has it (5a)
+    // Kept: no caller has K = 0, and a type with 0 < K would be made for one clear (5a)
     requires { (0 < K) × (b.x0 ≤ b.x1) × (b.x1 ≤ width) × (b.y1 * width * K ≤ length items.old) }
     ensures { (z : T) → items.new ≡ rows_of K (element_at K value z) z width b.x0 b.y0 b.x1 b.y1 items.old }
 {
@@ -40,7 +41,7 @@ fn fill_rows<T: Copy, const K: usize>(items: &mut [T], width: usize, b: PixelBox
 
 // The box's rows, at once where they are whole rows of the target.
 fn fill_box<T: Copy, const K: usize>(items: &mut [T], width: usize, b: PixelBox, value: [T; K])
-    // Kept: K is as for `fill_rows` (5a)
+    // Kept: a type with 0 < K would be made for one clear (5a)
     requires { (0 < K) × (b.x0 ≤ b.x1) × (b.x1 ≤ width) × (b.y0 ≤ b.y1) × (b.y1 * width * K ≤ length items.old) }
     ensures { (z : T) → items.new ≡ rows_of K (element_at K value z) z width b.x0 b.y0 b.x1 b.y1 items.old }
 {
@@ -60,7 +61,7 @@ fn clear<T: Copy, const K: usize>(
     value: [T; K],
     scissor: Option<ScissorBox>,
 )
-    // Kept: K is as for `fill_rows` (5a)
+    // Kept: a type with 0 < K would be made for one clear (5a)
     requires { (0 < K) × (length items.old ≡ K * (width * height)) }
     ensures { (z : T) → items.new ≡ cleared_of K (λ c. get_or value c z) z width height scissor items.old }
 {
@@ -83,19 +84,14 @@ pub fn clear_color(
     ensures answer { answer_number result ≡ clear_color_check width height (length colors.old) depths_len scissor }
     ensures colors_after { colors.new ≡ clear_color_of width height depths_len rgba scissor colors.old }
 {
-    if !scissor::target_fits(width, height, colors.len(), depths_len) {
-        return Err(Refusal::Target);
-    }
-    if !scissor::scissor_fits(scissor) {
-        return Err(Refusal::Scissor);
-    }
+    scissor::check(width, height, colors.len(), depths_len, scissor)?;
     clear(colors, width, height, rgba, scissor);
     Ok(())
 }
 
 // Clears the depths in the scissor box.
-// Kept: what it shares with `clear_color` is `clear`; the checks, in document 01's order, end with one that a colour lacks. The parameters
-// are as there (2e, 5c, 6b)
+// Kept: what it shares with `clear_color` is `scissor::check` and `clear`; between them stands the check of the value, which a colour lacks.
+// The parameters are as there (2e, 5c, 6b)
 pub fn clear_depth(
     depths: &mut [f32],
     colors_len: usize,
@@ -107,12 +103,7 @@ pub fn clear_depth(
     ensures answer { answer_number result ≡ clear_depth_check width height colors_len (length depths.old) value scissor }
     ensures depths_after { depths.new ≡ clear_depth_of width height colors_len value scissor depths.old }
 {
-    if !scissor::target_fits(width, height, colors_len, depths.len()) {
-        return Err(Refusal::Target);
-    }
-    if !scissor::scissor_fits(scissor) {
-        return Err(Refusal::Scissor);
-    }
+    scissor::check(width, height, colors_len, depths.len(), scissor)?;
     if !floats::is_bounded(value) {
         return Err(Refusal::Float);
     }

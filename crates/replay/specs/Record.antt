@@ -26,6 +26,10 @@ told_of t entry right =
       sum = sum_of (step_of t.sum (length entry)) entry;
     }
 
+-- first, first + step, first + 2 step, .. in bytes
+abbrev pub ascending : ℕ → ℕ → ℕ → ℕ
+ascending first step i = (first + step * (i % 256) % 256) % 256
+
 -- the byte at an index, 0 past the end
 abbrev pub byte_or0 : List ℕ → ℕ → ℕ
 byte_or0 l i = slice_index l i

@@ -2,17 +2,20 @@
 // A record is a list of entries: a length in 4 bytes, little-endian, and that many bytes.
 #![tactic(auto)]
 
+pub mod numbered;
+
 ghost use Rattle.std.specs.Prelude.{◌≡◌, ℕ, ◌+◌, ◌≤◌, ◌↔◌, nat_eq, Some, length, slice_index, slice_get, IfSome, IsTrue, EachIndex, List, Bool};
 ghost use Rattle.std.specs.Float.Ieee as Ieee;
 ghost use Rattle.std.specs.Float.{binary32};
-ghost use Rattle.replay.specs.Record.{step_of, sum_of, byte_or0, word16_of, word32_of, word64_of, same_zero_of, same_of, told_of};
+ghost use Rattle.lists.specs.Lists.{tab};
+ghost use Rattle.replay.specs.Record.{step_of, sum_of, ascending, byte_or0, word16_of, word32_of, word64_of, same_zero_of, same_of, told_of};
 ghost use Rattle.replay.specs.Text.{tally_text};
 ghost use Rattle.replay.specs.Entries.{ConsumesEntry};
 ghost use Rattle.replay.specs.Calls.{IsTallyOfRecord};
 ghost use Rattle.replay.specs.Items.{place_of};
 
-use std::fmt;
 use std::io::{Input, Print, Read};
+use std::{array, fmt};
 
 // How many answers were right, how many there were, the bytes read and their checksum.
 #[derive(Clone, Copy, Debug, Default, PartialEq, Eq)]
@@ -93,6 +96,7 @@ pub fn run<R: Read, F: FnMut(&[u8]) -> bool>(
     buffer: &mut [u8],
     mut is_right: F,
 ) -> Tally
+    // Kept: what any function asks that calls a closure at values of its own (5a)
     requires { F.IsAlwaysCallable is_right }
     ensures { IsTallyOfRecord F.FnMut (R.remaining input.old) is_right result }
 {
@@ -109,6 +113,7 @@ pub fn run<R: Read, F: FnMut(&[u8]) -> bool>(
 
 // Replays the record on standard input, and prints its tally. A tally that cannot be printed is passed over.
 pub fn replay<F: FnMut(&[u8]) -> bool>(rt: &(impl Input + Print), is_right: F)
+    // Kept: as run (5a)
     requires { F.IsAlwaysCallable is_right }
 {
     let mut buffer = [0u8; 65536];
@@ -128,11 +133,11 @@ pub fn byte_at(b: &[u8], at: usize) -> u8
 pub fn bytes_at<const N: usize>(b: &[u8], at: usize) -> [u8; N]
     ensures { EachIndex result (λ k. slice_index result k ≡ byte_or0 b.now (at + k)) }
 {
-    let mut bytes = [0; N];
-    for (k, byte) in bytes.iter_mut().enumerate() {
-        *byte = byte_at(b, at.saturating_add(k));
-    }
-    bytes
+    array::from_fn(
+        |k: usize| -> u8
+            ensures { result ≡ byte_or0 b.entry.now (at + k) }
+        { byte_at(b, at.saturating_add(k)) },
+    )
 }
 
 // A number of 2 bytes, the low one first; bytes past the end are 0.
@@ -169,7 +174,8 @@ pub fn f32_at(b: &[u8], at: usize) -> f32
     floats::from_bits(u32_at(b, at))
 }
 
-// Whether b is the zero a. The reciprocals of a zero and of a small subnormal are the same infinity, so b is held to zero first.
+// Whether b is the zero a; of any other a too, as same_zero_of has it by reciprocals, where the signs alone would not do.
+// The reciprocals of a zero and of a small subnormal are the same infinity, so b is held to zero first.
 #[tactic(auto, unfolding(crate::specs::Record::same_zero_of))]
 fn same_zero(a: f32, b: f32) -> bool
     ensures { result ≡ same_zero_of a b }
@@ -178,13 +184,13 @@ fn same_zero(a: f32, b: f32) -> bool
 }
 
 // Whether two floats are the same: NaN is NaN, and a zero has its sign.
-// Kept: the bits tell NaNs apart, and std's total order asks that there is none.
-#[tactic(auto, using(std::proofs::lemmas::Bool::Decides::nat_tests), unfolding(crate::specs::Record::same_of))]
+// Kept: == holds no NaN for another and -0 for 0, the bits tell NaNs apart, and std's total order asks that there is none (4a)
+#[tactic(auto, using(std::proofs::lemmas::Bool::Decides::nat_tests, floats::proofs::Signs::nan_is), unfolding(crate::specs::Record::same_of))]
 pub fn same(a: f32, b: f32) -> bool
     ensures { result ≡ same_of a b }
 {
-    if a != a {
-        return b != b;
+    if a.is_nan() {
+        return b.is_nan();
     }
     if a == 0.0 {
         return same_zero(a, b);
@@ -192,7 +198,7 @@ pub fn same(a: f32, b: f32) -> bool
     a == b
 }
 
-// What stands one after another in an entry: bytes, and floats by their bits.
+// What stands one after another in an entry: bytes, numbers of 4 bytes, and floats by their bits.
 pub trait Item: Copy {
     ghost SIZE: { ℕ };
 
@@ -223,8 +229,27 @@ impl Item for u8 {
         byte_at(b, at)
     }
 
-    // Kept: the byte is the value, and no code (1m)
+    // Kept: the byte is the value, and no code; a trait has an impl for each type (1m, 2a)
     fn is_same(self, other: u8) -> bool {
+        self == other
+    }
+}
+
+impl Item for u32 {
+    ghost SIZE = { 4 };
+
+    ghost item_of = { word32_of };
+
+    ghost same_item_of = { nat_eq };
+
+    const SIZE: usize = 4;
+
+    fn at(b: &[u8], at: usize) -> u32 {
+        u32_at(b, at)
+    }
+
+    // Kept: as of u8 (1m, 2a)
+    fn is_same(self, other: u32) -> bool {
         self == other
     }
 }
@@ -247,11 +272,31 @@ impl Item for f32 {
     }
 }
 
+// The bytes first, first + step, first + 2 step, .. modulo 256.
+pub fn fill(out: &mut [u8], first: u8, step: u8)
+    ensures { out.new ≡ tab (length out.old) (ascending first step) }
+{
+    for (i, b) in out.iter_mut().enumerate() {
+        *b = first.wrapping_add(step.wrapping_mul((i % 256) as u8));
+    }
+}
+
 // Where item i of those from `at` on stands: at most the largest index, which is past every end.
 fn place<T: Item>(at: usize, i: usize) -> usize
     ensures { result ≡ place_of at T.SIZE i }
 {
     at.saturating_add(i.saturating_mul(T::SIZE))
+}
+
+// The N items from `at` on.
+pub fn items_at<T: Item, const N: usize>(b: &[u8], at: usize) -> [T; N]
+    ensures { EachIndex result (λ k. slice_get result k ≡ Some (T.item_of b.now (place_of at T.SIZE k))) }
+{
+    array::from_fn(
+        |k: usize| -> T
+            ensures { result ≡ T.item_of b.entry.now (place_of at T.SIZE k) }
+        { T::at(b, place::<T>(at, k)) },
+    )
 }
 
 // Reads the items from `at` on.

@@ -53,7 +53,7 @@ fn drawn(
 }
 
 // The call on the colours and depths of before: its answer, and that it leaves those of after.
-// Kept: as drawn (5c, 6c)
+// Kept: as drawn (6c)
 fn is_right(entry: &[u8], colors: &mut [u8], depths: &mut [f32]) -> bool {
     let k = (replay::u32_at(entry, 16) as usize).min(168);
     let l = (replay::u32_at(entry, 20) as usize).min(640);

@@ -2,6 +2,7 @@
 // An entry: the helper's code, three operands by their bits (4 bytes each), whether the answer is below zero, the answer (8 bytes).
 #![tactic(auto)]
 
+use replay::numbered::Signed;
 use std::num::{
     saturating_f32_to_i32, saturating_f32_to_i64, saturating_f32_to_u8, saturating_f32_to_u32,
 };
@@ -14,7 +15,7 @@ enum Answer {
     Whole(i64),
 }
 
-// Kept: each code stands once, beside its helper; with an enum of the helpers it would stand in try_from, and the helper in a match besides (1l, 7a)
+// Kept: each code stands once, beside its helper; with an enum of the helpers it would stand in try_from, and the helper in a match besides: here no other place speaks of a helper (1l, 7a)
 fn answer_to(entry: &[u8]) -> Option<Answer> {
     let code = replay::byte_at(entry, 0);
     let a = replay::f32_at(entry, 1);
@@ -52,10 +53,9 @@ fn is_right(entry: &[u8]) -> bool {
     match answer_to(entry) {
         Some(Answer::Float(x)) => replay::same(x, replay::f32_at(entry, 14)),
         Some(Answer::Number(n)) => n == right,
-        // One below zero is recorded as -1 - z.
         Some(Answer::Whole(z)) => {
-            let from_zero = if z < 0 { !z } else { z };
-            replay::byte_at(entry, 13) == u8::from(z < 0) && from_zero.unsigned_abs() == right
+            let Signed { below, n } = Signed::from(z);
+            replay::byte_at(entry, 13) == u8::from(below) && n == right
         }
         None => false,
     }

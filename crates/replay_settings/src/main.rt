@@ -4,6 +4,7 @@
 #![tactic(auto)]
 
 use answers::Refusal;
+use replay::numbered::Code;
 use settings::{BlendFactor, CompareFunc, PipelineState, Rgba, TexEnvMode, TextureStage};
 
 // What an entry has the answer of.
@@ -21,39 +22,35 @@ enum Step {
 }
 
 // A step's number is its place above.
-impl From<u8> for Step {
-    // Kept: each record numbers its own kinds (2c)
-    fn from(n: u8) -> Step {
+impl TryFrom<u8> for Step {
+    type Error = ();
+
+    // Kept: each record numbers its own kinds, and the match is their table (2c, 7a)
+    fn try_from(n: u8) -> Result<Step, ()> {
         match n {
-            0 => Step::Test,
-            1 => Step::Resolve,
-            2 => Step::Blend,
-            3 => Step::Environment,
-            4 => Step::FogFactor,
-            6 => Step::Mask,
-            7 => Step::ReadCompare,
-            8 => Step::ReadFactor,
-            _ => Step::Fogged,
+            0 => Ok(Step::Test),
+            1 => Ok(Step::Resolve),
+            2 => Ok(Step::Blend),
+            3 => Ok(Step::Environment),
+            4 => Ok(Step::FogFactor),
+            5 => Ok(Step::Fogged),
+            6 => Ok(Step::Mask),
+            7 => Ok(Step::ReadCompare),
+            8 => Ok(Step::ReadFactor),
+            _ => Err(()),
         }
     }
 }
 
-// The environments by their numbers in an entry; a number past them stands for Add.
-const ENVIRONMENTS: [TexEnvMode; 4] = [
-    TexEnvMode::Modulate,
-    TexEnvMode::Replace,
-    TexEnvMode::Decal,
-    TexEnvMode::Blend,
-];
-
+// Kept: another record's entry has other readers (2d)
 #[derive(Clone, Copy, Debug, PartialEq, Eq)]
 struct Entry<'a> {
     bytes: &'a [u8],
 }
 
 impl Entry<'_> {
-    fn step(self) -> Step {
-        Step::from(replay::byte_at(self.bytes, 0))
+    fn step(self) -> Result<Step, ()> {
+        Step::try_from(replay::byte_at(self.bytes, 0))
     }
 
     // The first code, and the second.
@@ -76,22 +73,24 @@ impl Entry<'_> {
 
     // The first code's environment, with a colour.
     fn stage(self, env_color: Rgba) -> TextureStage {
-        let env = ENVIRONMENTS.get(self.codes().0 as usize).copied();
+        let (number, _) = self.codes();
         TextureStage {
             unit: 0,
-            env: env.unwrap_or(TexEnvMode::Add),
+            env: TexEnvMode::from(Code { number }),
             env_color,
         }
     }
 
-    fn color_at(self, at: usize) -> Rgba {
-        let mut channels = [0.0f32; 4];
-        replay::load(&mut channels, self.bytes, at);
-        Rgba::from(channels)
+    fn channels_at(self, at: usize) -> Rgba {
+        Rgba::from(replay::items_at::<f32, 4>(self.bytes, at))
     }
 
     fn colors(self) -> (Rgba, Rgba, Rgba) {
-        (self.color_at(9), self.color_at(25), self.color_at(41))
+        (
+            self.channels_at(9),
+            self.channels_at(25),
+            self.channels_at(41),
+        )
     }
 
     fn stored(self) -> u8 {
@@ -131,21 +130,22 @@ fn is_right(entry: Entry) -> bool {
     let (code, _) = entry.codes();
     let (src, dst) = entry.factors();
     match entry.step() {
-        Step::Test => {
+        Ok(Step::Test) => {
             let passes = entry.comparison().test(a.r, a.g);
             entry.has_answer(alone(f32::from(u8::from(passes))))
         }
-        Step::Resolve => entry.has_answer(src.resolve(a, b)),
-        Step::Blend => entry.has_answer(fragment::blend(src, dst, a, b)),
-        Step::Environment => entry.has_answer(fragment::apply_tex_env(entry.stage(a), b, c)),
-        Step::FogFactor => entry.has_answer(alone(fragment::fog_factor(with_fog(a, b), a.b))),
-        Step::Fogged => entry.has_answer(fragment::fogged(with_fog(a, b), a.b, c)),
-        Step::Mask => {
+        Ok(Step::Resolve) => entry.has_answer(src.resolve(a, b)),
+        Ok(Step::Blend) => entry.has_answer(fragment::blend(src, dst, a, b)),
+        Ok(Step::Environment) => entry.has_answer(fragment::apply_tex_env(entry.stage(a), b, c)),
+        Ok(Step::FogFactor) => entry.has_answer(alone(fragment::fog_factor(with_fog(a, b), a.b))),
+        Ok(Step::Fogged) => entry.has_answer(fragment::fogged(with_fog(a, b), a.b, c)),
+        Ok(Step::Mask) => {
             let byte = fragment::masked_byte(code == 1, a.r, entry.stored());
             entry.has_answer(alone(f32::from(byte)))
         }
-        Step::ReadCompare => entry.has_number(CompareFunc::try_from(code)),
-        Step::ReadFactor => entry.has_number(BlendFactor::try_from(code)),
+        Ok(Step::ReadCompare) => entry.has_number(CompareFunc::try_from(code)),
+        Ok(Step::ReadFactor) => entry.has_number(BlendFactor::try_from(code)),
+        Err(()) => false,
     }
 }
 

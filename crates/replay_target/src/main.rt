@@ -17,25 +17,29 @@ enum Call {
     Export,
 }
 
-impl From<u8> for Call {
-    // Kept: each record numbers its own kinds (2b, 2c)
-    fn from(n: u8) -> Call {
+impl TryFrom<u8> for Call {
+    type Error = ();
+
+    // Kept: each record numbers its own kinds, and the match is their table (2b, 2c, 7a)
+    fn try_from(n: u8) -> Result<Call, ()> {
         match n {
-            0 => Call::ClearColor,
-            1 => Call::ClearDepth,
-            _ => Call::Export,
+            0 => Ok(Call::ClearColor),
+            1 => Ok(Call::ClearDepth),
+            2 => Ok(Call::Export),
+            _ => Err(()),
         }
     }
 }
 
+// Kept: another record's entry has other readers (2d)
 #[derive(Clone, Copy, Debug, PartialEq, Eq)]
 struct Entry<'a> {
     bytes: &'a [u8],
 }
 
 impl Entry<'_> {
-    fn call(self) -> Call {
-        Call::from(replay::byte_at(self.bytes, 0))
+    fn call(self) -> Result<Call, ()> {
+        Call::try_from(replay::byte_at(self.bytes, 0))
     }
 
     // Number k of the scissor: its sign, and its size.
@@ -88,7 +92,7 @@ fn is_right(entry: Entry, colors: &mut [u8], depths: &mut [f32], out: &mut [u8])
         return false;
     };
     match entry.call() {
-        Call::ClearColor => {
+        Ok(Call::ClearColor) => {
             replay::load(colors, bytes, BODY);
             let rgba = replay::bytes_at(bytes, 30);
             let scissor = entry.scissor();
@@ -97,7 +101,7 @@ fn is_right(entry: Entry, colors: &mut [u8], depths: &mut [f32], out: &mut [u8])
             );
             entry.is_answer(answer) && replay::are_same(colors, bytes, BODY + n)
         }
-        Call::ClearDepth => {
+        Ok(Call::ClearDepth) => {
             replay::load(depths, bytes, BODY);
             let value = replay::f32_at(bytes, 30);
             let scissor = entry.scissor();
@@ -106,12 +110,13 @@ fn is_right(entry: Entry, colors: &mut [u8], depths: &mut [f32], out: &mut [u8])
             );
             entry.is_answer(answer) && replay::are_same(depths, bytes, BODY + m * 4)
         }
-        Call::Export => {
+        Ok(Call::Export) => {
             replay::load(colors, bytes, BODY);
             replay::load(out, bytes, BODY + n);
             let answer = export::to_rgb565(colors, depths_len, width, height, out);
             entry.is_answer(answer) && replay::are_same(out, bytes, BODY + n + k)
         }
+        Err(()) => false,
     }
 }
 

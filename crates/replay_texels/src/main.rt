@@ -4,57 +4,49 @@
 #![tactic(auto)]
 
 use answers::Refusal;
-use std::array;
 
 // The bytes of an entry before its data.
 const HEAD: usize = 37;
 
-// What stands in the output before a call.
-fn before(out: &mut [u8]) {
-    for (i, b) in out.iter_mut().enumerate() {
-        *b = ((i % 256 * 37 + 11) % 256) as u8;
-    }
+#[derive(Clone, Copy, Debug, PartialEq, Eq)]
+enum Data {
+    Plain,
+    Compressed,
 }
 
 // What an entry asks for.
+// Kept: a size query is a call of its own, and no missing decode (1a)
 #[derive(Clone, Copy, Debug, PartialEq, Eq)]
 enum Operation {
-    Plain,
-    Compressed,
+    Decode(Data),
     Size,
 }
 
-impl From<u8> for Operation {
-    // Kept: like the other conversions from codes, but with codes and variants of its own. (2b, 2c)
-    fn from(code: u8) -> Self {
+impl TryFrom<u8> for Operation {
+    type Error = ();
+
+    // Kept: like the other conversions from codes, but with codes and variants of its own, whose table the match is. (2b, 2c, 7a)
+    fn try_from(code: u8) -> Result<Operation, ()> {
         match code {
-            0 => Operation::Plain,
-            2 => Operation::Size,
-            _ => Operation::Compressed,
+            0 => Ok(Operation::Decode(Data::Plain)),
+            1 => Ok(Operation::Decode(Data::Compressed)),
+            2 => Ok(Operation::Size),
+            _ => Err(()),
         }
     }
 }
 
-fn decoded(entry: &[u8], s: &[u8], out: &mut [u8]) -> Result<(), Refusal> {
-    let [width, height, format, ty]: [u32; 4] = array::from_fn(|k| replay::u32_at(
-        entry,
-        1 + 4 * k,
-    ));
-    if Operation::from(replay::byte_at(entry, 0)) == Operation::Plain {
-        return texels::decode_to_rgba(s, width, height, format, ty, out);
+fn decoded(data: Data, entry: &[u8], s: &[u8], out: &mut [u8]) -> Result<(), Refusal> {
+    let [width, height, format, ty]: [u32; 4] = replay::items_at(entry, 1);
+    match data {
+        Data::Plain => texels::decode_to_rgba(s, width, height, format, ty, out),
+        Data::Compressed => { compressed::decode_compressed_to_rgba(s, width, height, format, out) }
     }
-    compressed::decode_compressed_to_rgba(s, width, height, format, out)
 }
 
-// The number of a decode into `out`, and what stands there afterwards.
-fn matches(entry: &[u8], s: &[u8], wanted: &[u8], out: &mut [u8]) -> bool {
-    before(out);
-    let number = answers::number(decoded(entry, s, out));
-    number == replay::u32_at(entry, 25) && &*out == wanted
-}
-
-// A decode into the first m bytes of `room`.
-fn is_decode_right(entry: &[u8], room: &mut [u8]) -> bool {
+// The number of a decode into the first bytes of a room, and what stands there afterwards.
+fn is_decode_right(data: Data, entry: &[u8]) -> bool {
+    let mut room = [0u8; 1024];
     let n = replay::u32_at(entry, 17) as usize;
     let m = replay::u32_at(entry, 21) as usize;
     let from = HEAD + n;
@@ -65,11 +57,13 @@ fn is_decode_right(entry: &[u8], room: &mut [u8]) -> bool {
     ) else {
         return false;
     };
-    matches(entry, s, wanted, out)
+    replay::fill(out, 11, 37);
+    let number = answers::number(decoded(data, entry, s, out));
+    number == replay::u32_at(entry, 25) && &*out == wanted
 }
 
 fn is_size_right(entry: &[u8]) -> bool {
-    let [width, height, format]: [u32; 3] = array::from_fn(|k| replay::u32_at(entry, 1 + 4 * k));
+    let [width, height, format]: [u32; 3] = replay::items_at(entry, 1);
     match compressed::compressed_image_size(format, width, height) {
         Ok(n) => replay::u32_at(entry, 25) == 0 && n as u64 == replay::u64_at(entry, 29),
         Err(why) => why.number() == replay::u32_at(entry, 25),
@@ -77,12 +71,10 @@ fn is_size_right(entry: &[u8]) -> bool {
 }
 
 fn is_right(entry: &[u8]) -> bool {
-    match Operation::from(replay::byte_at(entry, 0)) {
-        Operation::Size => is_size_right(entry),
-        Operation::Plain | Operation::Compressed => {
-            let mut room = [0u8; 1024];
-            is_decode_right(entry, &mut room)
-        }
+    match Operation::try_from(replay::byte_at(entry, 0)) {
+        Ok(Operation::Decode(data)) => is_decode_right(data, entry),
+        Ok(Operation::Size) => is_size_right(entry),
+        Err(()) => false,
     }
 }
 

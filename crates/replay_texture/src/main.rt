@@ -4,7 +4,6 @@
 #![tactic(auto)]
 
 use answers::Refusal;
-use std::array;
 
 // What a call on a layout that holds no record is recorded as.
 const WRONG_LAYOUT: u32 = 255;
@@ -16,37 +15,32 @@ enum Kind {
     Set,
 }
 
-impl From<u8> for Kind {
-    // Kept: each record numbers its own kinds (2b, 2c)
-    fn from(n: u8) -> Kind {
-        match n {
-            0 => Kind::Define,
-            1 => Kind::Patch,
-            _ => Kind::Set,
-        }
-    }
-}
+impl TryFrom<u8> for Kind {
+    type Error = ();
 
-// The bytes first, first + step, first + 2 step, .. modulo 256.
-fn fill(out: &mut [u8], first: u8, step: u8) {
-    let mut next = first;
-    for b in out.iter_mut() {
-        *b = next;
-        next = next.wrapping_add(step);
+    // Kept: each record numbers its own kinds, and the match is their table (2b, 2c, 7a)
+    fn try_from(n: u8) -> Result<Kind, ()> {
+        match n {
+            0 => Ok(Kind::Define),
+            1 => Ok(Kind::Patch),
+            2 => Ok(Kind::Set),
+            _ => Err(()),
+        }
     }
 }
 
 // None where the layout holds no record; it is rewritten where a call that makes a new one is done.
 fn call(
+    kind: Kind,
     record: &mut [u8; 244],
     store: &mut [u8],
     image: &[u8],
     entry: &[u8],
 ) -> Option<Result<(), Refusal>> {
     let texture = layouts::read_record(record)?;
-    let [a, b, c, d, e]: [u32; 5] = array::from_fn(|k| replay::u32_at(entry, 1 + k * 4));
+    let [a, b, c, d, e]: [u32; 5] = replay::items_at(entry, 1);
     let place = replay::u64_at(entry, 21) as usize;
-    let made = match Kind::from(replay::byte_at(entry, 0)) {
+    let made = match kind {
         Kind::Define => texture::define_level(store, texture, a, b, c, place, image),
         Kind::Patch => return Some(texture::patch_level(store, texture, a, b, c, d, e, image)),
         Kind::Set => texture::set_parameter(texture, a, b),
@@ -56,10 +50,13 @@ fn call(
 
 // The call on a store and an image of the entry's lengths: its number, and the checksums of what it leaves.
 fn is_call_right(store: &mut [u8], image: &mut [u8], entry: &[u8]) -> bool {
+    let Ok(kind) = Kind::try_from(replay::byte_at(entry, 0)) else {
+        return false;
+    };
     let mut record = replay::bytes_at(entry, 47);
-    fill(store, 3, 7);
-    fill(image, replay::byte_at(entry, 33), 13);
-    let answer = call(&mut record, store, image, entry);
+    replay::fill(store, 3, 7);
+    replay::fill(image, replay::byte_at(entry, 33), 13);
+    let answer = call(kind, &mut record, store, image, entry);
     answer.map_or(WRONG_LAYOUT, |done| answers::number(done))
         == u32::from(replay::byte_at(entry, 38))
         && replay::sum_bytes(0, store) == u64::from(replay::u32_at(entry, 43))

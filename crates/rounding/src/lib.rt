@@ -36,6 +36,7 @@ pub fn ceil(x: f32) -> f32
     -floor(-x)
 }
 
+// Kept: it says by round_of what std says in its own words, once for those who call it. (4d)
 pub fn round(x: f32) -> f32
     ensures { result ≡ round_of x }
 {
@@ -43,6 +44,7 @@ pub fn round(x: f32) -> f32
 }
 
 // The whole part of a t from 0 up to 2^W, by the last bits of a sum with 2^23.
+// Kept: over 1,024 floats it takes 2.7 ns each where std's truncating_f32_to_u64 takes 5.8 and saturating_f32_to_u32 8.7: to_byte, all of which takes 2.1, would miss its bar. (4d)
 pub fn whole_part<const W: u32>(t: f32) -> u32
     requires width { W ≤ 22 }
     requires part { Part W t }

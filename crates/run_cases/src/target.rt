@@ -4,6 +4,7 @@ ghost use Rattle.std.specs.Prelude.{◌≤◌};
 use crate::lines;
 
 // A target of one row, and then of one column, with as many colours and depths as its sides ask for.
+// Kept: each loop calls another operation on slices of its own; a closure for it would stand where the call stands (7b)
 fn at_side<const SIDE: usize, const BYTES: usize, const OUT: usize>(rt: &impl Print)
     requires { (SIDE ≤ 4097) × (BYTES ≤ 16388) × (OUT ≤ 8194) }
 {

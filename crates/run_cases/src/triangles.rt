@@ -34,15 +34,16 @@ fn stage() -> TextureStage {
 
 // The default comparison is Less.
 fn settings(width: i32, height: i32, depth_test: bool) -> PipelineState {
-    let mut s = PipelineState::new();
-    s.viewport = Viewport {
-        x: 0,
-        y: 0,
-        width,
-        height,
-    };
-    s.depth_test = depth_test;
-    s
+    PipelineState {
+        viewport: Viewport {
+            x: 0,
+            y: 0,
+            width,
+            height,
+        },
+        depth_test,
+        ..PipelineState::new()
+    }
 }
 
 fn tell(rt: &impl Print, name: &str, answer: Result<usize, Refusal>) {

@@ -2,9 +2,11 @@
 use Prim.Native.Nat.{ℕ, ◌+◌}
 use mathlib.Core.Path.{◌≡◌, refl, ap, ap₂, ◌∙◌}
 use mathlib.Core.Bool.{Bool, true, false, cond}
-use mathlib.Core.List.{List, [], ◌∷◌, Memᴰ}
+use mathlib.Core.List.{List, [], ◌∷◌, ◌++◌, Memᴰ}
 use lib.ListN.{length, get_or, length-append}
 use lib.Ieee.{Float}
+use Rattle.std.specs.Prelude.{Option, Some, None}
+use Rattle.std.specs.Option.{option_map_or}
 use Rattle.levels.specs.declared.MipLevel.{MipLevel}
 use Rattle.levels.specs.declared.Texture.{Texture}
 use Rattle.levels.specs.declared.Wrap.{Wrap}
@@ -12,7 +14,6 @@ use Rattle.levels.specs.declared.Filter.{Filter}
 use Rattle.levels.specs.declared.Filter.TheVariants.{Nearest, Linear}
 use Rattle.levels.specs.Levels.{level_of, complete}
 use Rattle.mipmaps.specs.declared.Chosen.{Chosen}
-use Rattle.mipmaps.specs.declared.Chosen.TheVariants.{One, Two}
 use Rattle.mipmaps.specs.declared.Coordinates.{Coordinates}
 use Rattle.sampler.specs.Addresses.{texel_addresses, nearest_addresses, linear_addresses, filter_addresses, chosen_addresses, levels_for, addresses_of, bytes_at}
 use Rattle.sampler.specs.Samples.{taken, count_of, texel_from, sample_of}
@@ -25,12 +26,14 @@ filter_count Linear m ws wt s t = refl
 
 pub chosen_count : (x : Texture) (c : Chosen) (s t : Float) → length (chosen_addresses x c s t) ≡ count_of c
 unfolding chosen_addresses
-chosen_count x (One k f) s t = filter_count f (level_of x k) x.wrap_s x.wrap_t s t
-chosen_count x (Two k f part) s t =
-    let a = filter_addresses f (level_of x k) x.wrap_s x.wrap_t s t in
-    let b = filter_addresses f (level_of x (k + 1)) x.wrap_s x.wrap_t s t in
-    length-append a b
-    ∙ ap₂ (λ (m n : ℕ). m + n) (filter_count f (level_of x k) x.wrap_s x.wrap_t s t) (filter_count f (level_of x (k + 1)) x.wrap_s x.wrap_t s t)
+chosen_count x c s t = go c.part
+  where
+    go : (o : Option ℕ) → length (option_map_or (λ (part : ℕ). filter_addresses c.filter (level_of x c.level) x.wrap_s x.wrap_t s t ++ filter_addresses c.filter (level_of x (c.level + 1)) x.wrap_s x.wrap_t s t) o (filter_addresses c.filter (level_of x c.level) x.wrap_s x.wrap_t s t))
+        ≡ option_map_or (λ (part : ℕ). taken c.filter + taken c.filter) o (taken c.filter)
+    go None = filter_count c.filter (level_of x c.level) x.wrap_s x.wrap_t s t
+    go (Some part) =
+        length-append (filter_addresses c.filter (level_of x c.level) x.wrap_s x.wrap_t s t) (filter_addresses c.filter (level_of x (c.level + 1)) x.wrap_s x.wrap_t s t)
+        ∙ ap₂ (λ (m n : ℕ). m + n) (filter_count c.filter (level_of x c.level) x.wrap_s x.wrap_t s t) (filter_count c.filter (level_of x (c.level + 1)) x.wrap_s x.wrap_t s t)
 
 pub address_count : (x : Texture) (p : Coordinates) → length (addresses_of x p) ≡ cond (complete (level_of x 0)) (count_of (levels_for x p)) 0
 unfolding addresses_of

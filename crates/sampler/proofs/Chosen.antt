@@ -6,6 +6,7 @@ use mathlib.Core.List.{List, ◌++◌, map-append}
 use lib.ListN.{length, get_or, take, drop}
 use lib.Seq.{take_at, drop_at}
 use lib.Ieee.{Float}
+use Rattle.std.specs.Prelude.{Some, None}
 use Rattle.lists.proofs.Choice.{no}
 use Rattle.levels.specs.declared.MipLevel.{MipLevel}
 use Rattle.levels.specs.declared.Texture.{Texture}
@@ -14,7 +15,6 @@ use Rattle.levels.specs.declared.Filter.{Filter}
 use Rattle.levels.specs.declared.Filter.TheVariants.{Nearest, Linear}
 use Rattle.levels.specs.Levels.{level_of, complete, valid_of}
 use Rattle.mipmaps.specs.declared.Chosen.{Chosen}
-use Rattle.mipmaps.specs.declared.Chosen.TheVariants.{One, Two}
 use Rattle.mipmaps.specs.declared.Coordinates.{Coordinates}
 use Rattle.sampler.specs.declared.Texel.{Texel}
 use Rattle.sampler.specs.Texels.{white, part_of, mix_texel}
@@ -27,9 +27,9 @@ filter_bytes store Nearest m ws wt s t = refl
 filter_bytes store Linear m ws wt s t = refl
 
 module _ (store : List ℕ) (x : Texture) (s t : Float) where
-  pub chosen_one : (c : Chosen) (k : ℕ) (f : Filter) → c ≡ One k f → level_texel store x k f s t ≡ chosen_texel x c s t (bytes_at store (chosen_addresses x c s t))
+  pub chosen_one : (c : Chosen) → c.part ≡ None → level_texel store x c.level c.filter s t ≡ chosen_texel x c s t (bytes_at store (chosen_addresses x c s t))
   unfolding level_texel chosen_texel chosen_addresses
-  chosen_one c k f e = rw e
+  chosen_one c e = rw e
 
   addresses : Filter → ℕ → List ℕ
   addresses f k = filter_addresses f (level_of x k) x.wrap_s x.wrap_t s t
@@ -45,16 +45,19 @@ module _ (store : List ℕ) (x : Texture) (s t : Float) where
   unfolding addresses
   above f k j = ap (λ (l : List ℕ). drop (taken f) l) (apart f k j) ∙ drop_at (bytes_at store (addresses f k)) (bytes_at store (addresses f j)) (taken f) (filter_bytes store f (level_of x k) x.wrap_s x.wrap_t s t)
 
-  chosen_two : (c : Chosen) (k : ℕ) (f : Filter) (part : ℕ) → c ≡ Two k f part
-      → mix_texel (part_of part) (level_texel store x k f s t) (level_texel store x (k + 1) f s t) ≡ chosen_texel x c s t (bytes_at store (chosen_addresses x c s t))
+  chosen_two : (c : Chosen) (part : ℕ) → c.part ≡ Some part
+      → mix_texel (part_of part) (level_texel store x c.level c.filter s t) (level_texel store x (c.level + 1) c.filter s t) ≡ chosen_texel x c s t (bytes_at store (chosen_addresses x c s t))
   unfolding level_texel chosen_texel chosen_addresses addresses
-  chosen_two c k f part e = rw e
+  chosen_two c part e =
+      let k = c.level in
+      let f = c.filter in
+      rw e
       (ap (λ (l : List ℕ). mix_texel (part_of part) (filter_texel f (level_of x k) s t l) (filter_texel f (level_of x (k + 1)) s t (bytes_at store (addresses f (k + 1))))) (sym (below f k (k + 1)))
       ∙ ap (λ (l : List ℕ). mix_texel (part_of part) (filter_texel f (level_of x k) s t (take (taken f) (bytes_at store (addresses f k ++ addresses f (k + 1))))) (filter_texel f (level_of x (k + 1)) s t l)) (sym (above f k (k + 1))))
 
-  pub chosen_pair : (c : Chosen) (k : ℕ) (f : Filter) (part : ℕ) → c ≡ Two k f part → (a b : Texel) → a ≡ level_texel store x k f s t → b ≡ level_texel store x (k + 1) f s t
+  pub chosen_pair : (c : Chosen) (part : ℕ) → c.part ≡ Some part → (a b : Texel) → a ≡ level_texel store x c.level c.filter s t → b ≡ level_texel store x (c.level + 1) c.filter s t
       → mix_texel (part_of part) a b ≡ chosen_texel x c s t (bytes_at store (chosen_addresses x c s t))
-  chosen_pair c k f part e a b g h = rw (g, h) (chosen_two c k f part e)
+  chosen_pair c part e a b g h = rw (g, h) (chosen_two c part e)
 
 module _ (store : List ℕ) (x : Texture) (p : Coordinates) where
   pub incomplete : complete (level_of x 0) ≡ false → white ≡ sample_of store x p

@@ -1,5 +1,6 @@
 -- The bytes of the store that a sample takes, by their addresses, from the record and the coordinates alone. Repeats are kept.
 use Rattle.std.specs.Prelude.{ℕ, ◌+◌, ◌*◌, cond, List, [], ◌∷◌, ◌++◌, map, get_or, Float}
+use Rattle.std.specs.Option.{option_map_or}
 use Rattle.levels.specs.declared.MipLevel.{MipLevel}
 use Rattle.levels.specs.declared.Texture.{Texture}
 use Rattle.levels.specs.declared.Wrap.{Wrap}
@@ -8,7 +9,6 @@ use Rattle.levels.specs.declared.Filter.TheVariants.{Nearest, Linear}
 use Rattle.levels.specs.Levels.{level_of, complete}
 use Rattle.coords.specs.Coords.{wrap_coord, first_of, second_of}
 use Rattle.mipmaps.specs.declared.Chosen.{Chosen}
-use Rattle.mipmaps.specs.declared.Chosen.TheVariants.{One, Two}
 use Rattle.mipmaps.specs.declared.Coordinates.{Coordinates}
 use Rattle.mipmaps.specs.Mipmaps.{chosen_of}
 
@@ -44,9 +44,9 @@ levels_for t p = chosen_of (level_of t 0).width (level_of t 0).height t.max_mipm
 
 -- of one level, or of a level and then the next
 unfoldable pub chosen_addresses : Texture → Chosen → Float → Float → List ℕ
-chosen_addresses x (One k f) s t = filter_addresses f (level_of x k) x.wrap_s x.wrap_t s t
-chosen_addresses x (Two k f part) s t =
-    filter_addresses f (level_of x k) x.wrap_s x.wrap_t s t ++ filter_addresses f (level_of x (k + 1)) x.wrap_s x.wrap_t s t
+chosen_addresses x c s t =
+    let first = filter_addresses c.filter (level_of x c.level) x.wrap_s x.wrap_t s t in
+    option_map_or (λ (part : ℕ). first ++ filter_addresses c.filter (level_of x (c.level + 1)) x.wrap_s x.wrap_t s t) c.part first
 
 -- Document 01, port order 4: none where level 0 is incomplete
 unfoldable pub addresses_of : Texture → Coordinates → List ℕ

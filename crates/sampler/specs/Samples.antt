@@ -1,5 +1,6 @@
 -- A sample: the texel from the bytes at its addresses.
 use Rattle.std.specs.Prelude.{ℕ, ◌+◌, ◌*◌, ◌≤◌, ◌<◌, ◌≡◌, true, cond, List, eqb, length, take, drop, Float, Result, Ok, Err}
+use Rattle.std.specs.Option.{option_map_or}
 use Rattle.answers.specs.declared.Refusal.{Refusal}
 use Rattle.answers.specs.Numbers.{refusal_number}
 use Rattle.levels.specs.declared.MipLevel.{MipLevel}
@@ -10,7 +11,6 @@ use Rattle.levels.specs.Levels.{level_of, complete, valid_of}
 use Rattle.levels.specs.declared.Wrap.{Wrap}
 use Rattle.coords.specs.Coords.{wrap_coord, first_of, second_of, weight_of}
 use Rattle.mipmaps.specs.declared.Chosen.{Chosen}
-use Rattle.mipmaps.specs.declared.Chosen.TheVariants.{One, Two}
 use Rattle.mipmaps.specs.declared.Coordinates.{Coordinates}
 use Rattle.sampler.specs.declared.Texel.{Texel}
 use Rattle.sampler.specs.Texels.{texel_at, white, linear_texel, part_of, mix_texel}
@@ -23,21 +23,17 @@ taken Linear = 16
 
 -- how many bytes a sample takes of its levels
 abbrev pub count_of : Chosen → ℕ
-count_of (One k f) = taken f
-count_of (Two k f part) = taken f + taken f
+count_of c = option_map_or (λ (part : ℕ). taken c.filter + taken c.filter) c.part (taken c.filter)
 
 -- the levels that a sample reads, from the first to the last, and by which filter
 abbrev pub first_level : Chosen → ℕ
-first_level (One k f) = k
-first_level (Two k f part) = k
+first_level c = c.level
 
 abbrev pub last_level : Chosen → ℕ
-last_level (One k f) = k
-last_level (Two k f part) = k + 1
+last_level c = option_map_or (λ (part : ℕ). c.level + 1) c.part c.level
 
 abbrev pub level_filter : Chosen → Filter
-level_filter (One k f) = f
-level_filter (Two k f part) = f
+level_filter c = c.filter
 
 -- texture.rs, sample_filter: the texel of a level from the bytes at `filter_addresses`
 unfoldable pub filter_texel : Filter → MipLevel → Float → Float → List ℕ → Texel
@@ -46,9 +42,11 @@ filter_texel Linear m s t b = linear_texel (weight_of s m.width) (weight_of t m.
 
 -- texture.rs, sample_with_gradients: from the bytes at `chosen_addresses`
 unfoldable pub chosen_texel : Texture → Chosen → Float → Float → List ℕ → Texel
-chosen_texel x (One k f) s t b = filter_texel f (level_of x k) s t b
-chosen_texel x (Two k f part) s t b =
-    mix_texel (part_of part) (filter_texel f (level_of x k) s t (take (taken f) b)) (filter_texel f (level_of x (k + 1)) s t (drop (taken f) b))
+chosen_texel x c s t b =
+    let f = c.filter in
+    option_map_or
+    (λ (part : ℕ). mix_texel (part_of part) (filter_texel f (level_of x c.level) s t (take (taken f) b)) (filter_texel f (level_of x (c.level + 1)) s t (drop (taken f) b)))
+    c.part (filter_texel f (level_of x c.level) s t b)
 
 -- the texel from the bytes at `addresses_of`
 unfoldable pub texel_from : Texture → Coordinates → List ℕ → Texel

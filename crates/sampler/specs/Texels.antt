@@ -1,5 +1,5 @@
 -- Texels from their bytes, and the mixing of texels. Each sum and product is rounded once, in the order of the Rust.
-use Rattle.std.specs.Prelude.{ℕ, ◌+◌, List, get_or, Float}
+use Rattle.std.specs.Prelude.{ℕ, ◌+◌, ◌*◌, List, [], ◌∷◌, get_or, Float}
 use Rattle.std.specs.Float.Ieee as Ieee
 use Rattle.std.specs.Float.{binary32}
 use Rattle.floats.specs.Num.{◌⊕◌, ◌⊖◌, ◌⊗◌, ◌⊘◌, of_nat32}
@@ -9,6 +9,14 @@ use Rattle.sampler.specs.declared.Texel.{Texel}
 -- the texel whose bytes stand at i to i + 3
 unfoldable pub texel_at : List ℕ → ℕ → Texel
 texel_at l i = record { r = get_or l i 0; g = get_or l (i + 1) 0; b = get_or l (i + 2) 0; a = get_or l (i + 3) 0 }
+
+-- a texel's four bytes
+abbrev pub channels_of : Texel → List ℕ
+channels_of x = x.r ∷ x.g ∷ x.b ∷ x.a ∷ []
+
+-- a texel as one number, red in its lowest byte and alpha in its highest
+abbrev pub packed_of : Texel → ℕ
+packed_of x = x.r + x.g * 256 + x.b * 65536 + x.a * 16777216
 
 -- Document 01, port order 4: an incomplete level 0 gives white
 unfoldable pub white : Texel

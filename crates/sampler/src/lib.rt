@@ -4,24 +4,54 @@
 ghost use Rattle.std.specs.Prelude.{◌≡◌, true, ◌+◌, ◌*◌, ◌≤◌, ◌<◌, length};
 ghost use Rattle.levels.specs.Levels.{Fits, valid_of};
 ghost use Rattle.mipmaps.specs.Mipmaps.{Within};
-ghost use Rattle.sampler.specs.Texels.{texel_at, white, linear_byte, linear_texel, part_of, mix_byte, mix_texel};
+ghost use Rattle.sampler.specs.Texels.{texel_at, channels_of, packed_of, white, linear_byte, linear_texel, part_of, mix_byte, mix_texel};
 ghost use Rattle.sampler.specs.Addresses.{index_of, filter_addresses, chosen_addresses, bytes_at};
-ghost use Rattle.sampler.specs.Samples.{filter_texel, chosen_texel, first_level, last_level, level_filter, sample_of, outcome_of, sample_call, Image, Readable, nearest_in, linear_in};
+ghost use Rattle.sampler.specs.Samples.{filter_texel, chosen_texel, sample_of, outcome_of, sample_call, Image, Readable, nearest_in, linear_in};
 
 use answers::Refusal;
 use coords::Side;
 use detail::LevelTable;
 use levels::{Filter, MipLevel, Texture, Wrap};
 use mipmaps::{Chosen, Coordinates};
+use std::array;
 
 // Red, green, blue and alpha.
-// Kept: Rgba has floats and ColorMask switches in these fields; one type over the three would turn each definition that reads .r into one over a type. (2d)
+// Kept: Rgba has floats and ColorMask switches in these fields; one type over the three would turn each definition that reads .r into one over a type.
+// No [u8; 4]: the definitions and stages read a texel's channels by name, .r to .a, which a list of four has not. (2d)
 #[derive(Clone, Copy, Debug, PartialEq, Eq, Hash)]
 pub struct Texel {
     pub r: u8,
     pub g: u8,
     pub b: u8,
     pub a: u8,
+}
+
+impl From<[u8; 4]> for Texel {
+    ghost from_gives = { λ v x. x ≡ texel_at v 0 };
+
+    // Kept: each type writes its own fields, as the trait asks: one impl for a type. (2c)
+    #[tactic(auto, unfolding(crate::specs::Texels::texel_at))]
+    fn from([r, g, b, a]: [u8; 4]) -> Texel {
+        Texel { r, g, b, a }
+    }
+}
+
+impl From<Texel> for [u8; 4] {
+    ghost from_gives = { λ x v. v ≡ channels_of x };
+
+    // Kept: as above. (2a)
+    fn from(x: Texel) -> [u8; 4] {
+        [x.r, x.g, x.b, x.a]
+    }
+}
+
+// Red is the lowest byte.
+impl From<Texel> for u32 {
+    ghost from_gives = { λ x r. r ≡ packed_of x };
+
+    fn from(x: Texel) -> u32 {
+        u32::from_le_bytes(<[u8; 4]>::from(x))
+    }
 }
 
 // The last step rounds half away from zero.
@@ -36,12 +66,11 @@ fn linear_byte(wx: f32, wy: f32, c00: u8, c10: u8, c01: u8, c11: u8) -> u8
 fn linear_texel(wx: f32, wy: f32, c00: Texel, c10: Texel, c01: Texel, c11: Texel) -> Texel
     ensures { result ≡ linear_texel wx wy c00 c10 c01 c11 }
 {
-    Texel {
-        r: linear_byte(wx, wy, c00.r, c10.r, c01.r, c11.r),
-        g: linear_byte(wx, wy, c00.g, c10.g, c01.g, c11.g),
-        b: linear_byte(wx, wy, c00.b, c10.b, c01.b, c11.b),
-        a: linear_byte(wx, wy, c00.a, c10.a, c01.a, c11.a),
-    }
+    let c00 = <[u8; 4]>::from(c00);
+    let c10 = <[u8; 4]>::from(c10);
+    let c01 = <[u8; 4]>::from(c01);
+    let c11 = <[u8; 4]>::from(c11);
+    Texel::from(array::from_fn(|k| linear_byte(wx, wy, c00[k], c10[k], c01[k], c11[k])))
 }
 
 // A level's texels, and its sides along s and t.
@@ -69,20 +98,17 @@ impl LevelTexels<'_> {
     {
         let i = self.index(x, y);
         let texels = self.texels;
-        Texel {
-            r: texels[i],
-            g: texels[i + 1],
-            b: texels[i + 2],
-            a: texels[i + 3],
-        }
+        Texel::from(array::from_fn(|k| texels[i + k]))
     }
 
+    #[tactic(auto, using(coords::proofs::Sides::index_below))]
     fn nearest(&self, s: f32, t: f32) -> Texel
         ensures { result ≡ nearest_in self.now.texels.now self.now.x.size self.now.y.size self.now.x.wrap self.now.y.wrap s t }
     {
         self.texel(self.x.coord(s), self.y.coord(t))
     }
 
+    #[tactic(auto, using(coords::proofs::Sides::axis_below))]
     fn linear(&self, s: f32, t: f32) -> Texel
         ensures { result ≡ linear_in self.now.texels.now self.now.x.size self.now.y.size self.now.x.wrap self.now.y.wrap s t }
     {
@@ -132,29 +158,22 @@ fn mix_byte(weight: f32, a: u8, b: u8) -> u8
     channels::rounded_byte(a as f32 + (b as f32 - a as f32) * weight)
 }
 
-// A texel of a level and one of the next.
-fn mix_texels(part: u32, a: Texel, b: Texel) -> Texel
+// How much the next level weighs.
+// Kept: channels::to_unit divides a byte by 255; one function for both would take the divisor and say less. (2a)
+fn part_weight(part: u32) -> f32
     requires { part < 256 }
-    ensures { result ≡ mix_texel (part_of part) a b }
+    ensures { result ≡ part_of part }
 {
-    let weight = part as f32 / 256.0;
-    Texel {
-        r: mix_byte(weight, a.r, b.r),
-        g: mix_byte(weight, a.g, b.g),
-        b: mix_byte(weight, a.b, b.b),
-        a: mix_byte(weight, a.a, b.a),
-    }
+    part as f32 / 256.0
 }
 
-// The levels that a sample reads, from the first to the last, and by which filter.
-fn span(chosen: Chosen) -> (usize, usize, Filter)
-    requires { Within 10 chosen }
-    ensures { (result.0 ≡ first_level chosen) × (result.1 ≡ last_level chosen) × (result.2 ≡ level_filter chosen) }
+// A texel of a level and one of the next.
+fn mix_texels(weight: f32, a: Texel, b: Texel) -> Texel
+    ensures { result ≡ mix_texel weight a b }
 {
-    match chosen {
-        Chosen::One { level, filter } => (level, level, filter),
-        Chosen::Two { level, filter, .. } => (level, level + 1, filter),
-    }
+    let a = <[u8; 4]>::from(a);
+    let b = <[u8; 4]>::from(b);
+    Texel::from(array::from_fn(|k| mix_byte(weight, a[k], b[k])))
 }
 
 // One loop over the levels, so that the filters stand there once and need no call.
@@ -163,19 +182,18 @@ fn sample_chosen(store: &[u8], texture: &Texture, chosen: Chosen, s: f32, t: f32
     requires chosen_within { Within texture.now.max_mipmap_level chosen }
     ensures { result ≡ chosen_texel texture.now chosen s t (bytes_at store.now (chosen_addresses texture.now chosen s t)) }
 {
-    let (first, last, filter) = span(chosen);
+    let count = 1 + usize::from(chosen.part.is_some());
     let wrap_s = texture.wrap_s;
     let wrap_t = texture.wrap_t;
     let mut lower = white_texel();
     let mut upper = white_texel();
-    // Kept: over `&texture.levels[first..last + 1]` the goals sample_filter-upper-requires, loop-m-preserved and returns-in-Two stayed open. (3c)
-    for k in first..last + 1 {
+    for m in &texture.levels[chosen.level..chosen.level + count] {
         lower = upper;
-        upper = sample_filter(store, texture.levels[k], wrap_s, wrap_t, filter, s, t);
+        upper = sample_filter(store, *m, wrap_s, wrap_t, chosen.filter, s, t);
     }
-    match chosen {
-        Chosen::One { .. } => upper,
-        Chosen::Two { part, .. } => mix_texels(part, lower, upper),
+    match chosen.part {
+        Some(part) => mix_texels(part_weight(part), lower, upper),
+        None => upper,
     }
 }
 
@@ -192,22 +210,19 @@ fn white_texel() -> Texel
 }
 
 // A sample of a record that is known to be valid, with the table lent: what a draw does at each pixel.
-// Kept: stages lends these from its own struct, whose fact is of four records; a struct of the three would be made anew at each pixel. (5c)
+// Kept: public, and the caller holds the three apart: a draw has one store and one table, and a record for each stage. (5c)
 pub fn sample_with_gradients(
     store: &[u8],
     table: &LevelTable,
     texture: &Texture,
     p: Coordinates,
 ) -> Texel
-    // Kept: a struct of these, with the fact, would be made anew at each pixel. (5a)
+    // Kept: it speaks of the store and the record, which the caller holds apart. (5a)
     requires { valid_of (length store.now) texture.now ≡ true }
     ensures { result ≡ sample_of store.now texture.now p }
 {
     let first = texture.levels[0];
-    if first.width == 0 {
-        return white_texel();
-    }
-    if first.height == 0 {
+    if first.width == 0 || first.height == 0 {
         return white_texel();
     }
     let min = texture.min_filter;

@@ -1,5 +1,5 @@
 -- The checks of document 01 on a target and a scissor.
-use Rattle.std.specs.Prelude.{ℕ, ◌*◌, Bool, true, ◌&&◌, leb, eqb, ℤ, pos, negsuc, Option, Some, None}
+use Rattle.std.specs.Prelude.{ℕ, ◌*◌, Bool, true, cond, ◌&&◌, leb, eqb, ℤ, pos, negsuc, Option, Some, None}
 use Rattle.std.specs.Int.Signed.{le_z}
 use Rattle.settings.specs.declared.ScissorBox.{ScissorBox}
 
@@ -19,3 +19,7 @@ numbers_fit x y width height = (number_fits x && number_fits y) && (number_fits 
 unfoldable pub scissor_fits : Option ScissorBox → Bool
 scissor_fits None = true
 scissor_fits (Some b) = numbers_fit b.x b.y b.width b.height
+
+-- Document 01: 1; 2
+unfoldable pub check_of : ℕ → ℕ → ℕ → ℕ → Option ScissorBox → ℕ
+check_of width height colors depths s = cond (target_fits width height colors depths) (cond (scissor_fits s) 0 2) 1

@@ -2,9 +2,11 @@
 #![tactic(auto)]
 
 ghost use Rattle.std.specs.Prelude.{◌≡◌, ◌^◌, pos, ◌<ℤ◌};
+ghost use Rattle.answers.specs.Results.{answer_number};
 ghost use Rattle.scissor.specs.Scissor.{from_zero, box_of, cut_of, bounds_of};
-ghost use Rattle.scissor.specs.Check.{target_fits, number_fits, scissor_fits};
+ghost use Rattle.scissor.specs.Check.{target_fits, number_fits, numbers_fit, scissor_fits, check_of};
 
+use answers::Refusal;
 use settings::{PipelineState, ScissorBox};
 
 // Columns x0 to x1 and rows y0 to y1 of a target, rows from the top, the ends left out.
@@ -28,11 +30,7 @@ fn from_zero(v: i64) -> u32
 pub fn box_of(x0: u32, y0: u32, x1: u32, y1: u32) -> Option<PixelBox>
     ensures { result ≡ box_of x0 y0 x1 y1 }
 {
-    if x0 < x1 && y0 < y1 {
-        Some(PixelBox { x0, y0, x1, y1 })
-    } else {
-        None
-    }
+    (x0 < x1 && y0 < y1).then_some(PixelBox { x0, y0, x1, y1 })
 }
 
 // The scissor's y counts from the bottom.
@@ -56,15 +54,13 @@ fn cut(width: u32, height: u32, b: ScissorBox) -> Option<PixelBox>
 pub fn scissor_bounds(width: u32, height: u32, scissor: Option<ScissorBox>) -> Option<PixelBox>
     ensures { result ≡ bounds_of width height scissor }
 {
-    match scissor {
-        Some(b) => cut(width, height, b),
-        None => Some(PixelBox {
-            x0: 0,
-            y0: 0,
-            x1: width,
-            y1: height,
-        }),
-    }
+    let whole = PixelBox {
+        x0: 0,
+        y0: 0,
+        x1: width,
+        y1: height,
+    };
+    scissor.map_or(Some(whole), |b| cut(width, height, b))
 }
 
 // A scissor's or viewport's number.
@@ -75,17 +71,19 @@ pub fn number_fits(v: i32) -> bool
     (-PipelineState::MAX_WINDOW_NUMBER..=PipelineState::MAX_WINDOW_NUMBER).contains(&v)
 }
 
-#[tactic(auto, unfolding(crate::specs::Check::scissor_fits, crate::specs::Check::numbers_fit))]
+// Kept: a vertex's test is of other fields, floats, and has the chain alone in common (2b)
+#[tactic(auto, unfolding(crate::specs::Check::numbers_fit))]
+fn box_fits(b: ScissorBox) -> bool
+    ensures { result ≡ numbers_fit b.x b.y b.width b.height }
+{
+    number_fits(b.x) && number_fits(b.y) && number_fits(b.width) && number_fits(b.height)
+}
+
+#[tactic(auto, unfolding(crate::specs::Check::scissor_fits))]
 pub fn scissor_fits(scissor: Option<ScissorBox>) -> bool
     ensures { result ≡ scissor_fits scissor }
 {
-    match scissor {
-        Some(b) => number_fits(b.x)
-            && number_fits(b.y)
-            && number_fits(b.width)
-            && number_fits(b.height),
-        None => true,
-    }
+    scissor.is_none_or(box_fits)
 }
 
 // Kept: check 1 needs both lengths, and a clear or an export has one of the two slices: a slice, or a struct of both, would ask more of
@@ -99,4 +97,26 @@ pub fn target_fits(width: u32, height: u32, colors: usize, depths: usize) -> boo
         && height <= PipelineState::MAX_TARGET_SIDE
         && colors == 4 * pixels
         && depths == pixels
+}
+
+// Checks 1 and 2. colors, depths: how many there are.
+// Kept: the parameters are target_fits's own, handed on (5c, 6b)
+// Kept: draw_checks' check_late has one refusal after another in common with it, and other tests (2b)
+#[tactic(auto, unfolding(crate::specs::Check::check_of))]
+pub fn check(
+    width: u32,
+    height: u32,
+    colors: usize,
+    depths: usize,
+    scissor: Option<ScissorBox>,
+) -> Result<(), Refusal>
+    ensures { answer_number result ≡ check_of width height colors depths scissor }
+{
+    if !target_fits(width, height, colors, depths) {
+        return Err(Refusal::Target);
+    }
+    if !scissor_fits(scissor) {
+        return Err(Refusal::Scissor);
+    }
+    Ok(())
 }

@@ -5,6 +5,7 @@ ghost use Rattle.std.specs.Prelude.{◌≡◌};
 ghost use Rattle.screen.specs.Screen.{w_fits, ndc_fits, viewport_draws, view_of, x_of, y_of, z_of, corner_of};
 ghost use Rattle.screen.specs.Facing.{area_of, area_fits, front_of, discard_of};
 
+use gradients::PerCorner;
 use settings::{CullMode, DepthRange, FrontFace, Viewport};
 use vertices::Vertex;
 
@@ -26,13 +27,7 @@ pub struct ScreenVertex {
     pub inv_w: f32,
 }
 
-// The corners of a triangle on the screen, in the order of its vertices.
-#[derive(Clone, Copy, Debug, PartialEq)]
-pub struct ScreenTriangle {
-    pub a: ScreenVertex,
-    pub b: ScreenVertex,
-    pub c: ScreenVertex,
-}
+pub type ScreenTriangle = PerCorner<ScreenVertex>;
 
 fn w_fits(w: f32) -> bool
     ensures { result ≡ w_fits w }

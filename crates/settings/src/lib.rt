@@ -20,14 +20,14 @@ use consts::{
 // Comparison of the depth and alpha tests.
 #[derive(Clone, Copy, Debug, PartialEq, Eq, Hash)]
 pub enum CompareFunc {
-    Never,
-    Less,
-    Equal,
-    Lequal,
-    Greater,
-    Notequal,
-    Gequal,
-    Always,
+    Never = GL_NEVER as isize,
+    Less = GL_LESS as isize,
+    Equal = GL_EQUAL as isize,
+    Lequal = GL_LEQUAL as isize,
+    Greater = GL_GREATER as isize,
+    Notequal = GL_NOTEQUAL as isize,
+    Gequal = GL_GEQUAL as isize,
+    Always = GL_ALWAYS as isize,
 }
 
 // Refused, a comparison's code is unknown.
@@ -36,7 +36,8 @@ impl TryFrom<u32> for CompareFunc {
 
     ghost try_from_gives = { λ code r. r ≡ read_compare code };
 
-    // Kept: one body for all kinds would search a table of codes and values, and each kind would still write its table out (2c, 7a)
+    // Kept: one body for all kinds would search a list of each kind's variants by u32::from; each kind would still write its list, and the
+    // search would need a proof that a match does not (2c, 7a)
     #[tactic(auto, using(std::proofs::lemmas::Bool::Decides::nat_tests), unfolding(crate::specs::Settings::read_compare))]
     fn try_from(code: u32) -> Result<Self, Refusal> {
         match code {
@@ -56,17 +57,9 @@ impl TryFrom<u32> for CompareFunc {
 impl From<CompareFunc> for u32 {
     ghost from_gives = { λ v r. r ≡ compare_code v };
 
+    // Kept: the code is the discriminant, and a trait has one impl for a type (2a, 4e)
     fn from(v: CompareFunc) -> u32 {
-        match v {
-            CompareFunc::Never => GL_NEVER,
-            CompareFunc::Less => GL_LESS,
-            CompareFunc::Equal => GL_EQUAL,
-            CompareFunc::Lequal => GL_LEQUAL,
-            CompareFunc::Greater => GL_GREATER,
-            CompareFunc::Notequal => GL_NOTEQUAL,
-            CompareFunc::Gequal => GL_GEQUAL,
-            CompareFunc::Always => GL_ALWAYS,
-        }
+        v as u32
     }
 }
 
@@ -90,17 +83,17 @@ impl CompareFunc {
 // Source or destination blend factor.
 #[derive(Clone, Copy, Debug, PartialEq, Eq, Hash)]
 pub enum BlendFactor {
-    Zero,
-    One,
-    SrcColor,
-    OneMinusSrcColor,
-    SrcAlpha,
-    OneMinusSrcAlpha,
-    DstAlpha,
-    OneMinusDstAlpha,
-    DstColor,
-    OneMinusDstColor,
-    SrcAlphaSaturate,
+    Zero = GL_ZERO as isize,
+    One = GL_ONE as isize,
+    SrcColor = GL_SRC_COLOR as isize,
+    OneMinusSrcColor = GL_ONE_MINUS_SRC_COLOR as isize,
+    SrcAlpha = GL_SRC_ALPHA as isize,
+    OneMinusSrcAlpha = GL_ONE_MINUS_SRC_ALPHA as isize,
+    DstAlpha = GL_DST_ALPHA as isize,
+    OneMinusDstAlpha = GL_ONE_MINUS_DST_ALPHA as isize,
+    DstColor = GL_DST_COLOR as isize,
+    OneMinusDstColor = GL_ONE_MINUS_DST_COLOR as isize,
+    SrcAlphaSaturate = GL_SRC_ALPHA_SATURATE as isize,
 }
 
 // Refused, a factor's code is unknown.
@@ -109,7 +102,8 @@ impl TryFrom<u32> for BlendFactor {
 
     ghost try_from_gives = { λ code r. r ≡ read_factor code };
 
-    // Kept: one body for all kinds would search a table of codes and values, and each kind would still write its table out (2c, 7a)
+    // Kept: one body for all kinds would search a list of each kind's variants by u32::from; each kind would still write its list, and the
+    // search would need a proof that a match does not (2c, 7a)
     #[tactic(auto, using(std::proofs::lemmas::Bool::Decides::nat_tests), unfolding(crate::specs::Settings::read_factor))]
     fn try_from(code: u32) -> Result<Self, Refusal> {
         match code {
@@ -132,20 +126,9 @@ impl TryFrom<u32> for BlendFactor {
 impl From<BlendFactor> for u32 {
     ghost from_gives = { λ v r. r ≡ factor_code v };
 
+    // Kept: the code is the discriminant, and a trait has one impl for a type (2a, 4e)
     fn from(v: BlendFactor) -> u32 {
-        match v {
-            BlendFactor::Zero => GL_ZERO,
-            BlendFactor::One => GL_ONE,
-            BlendFactor::SrcColor => GL_SRC_COLOR,
-            BlendFactor::OneMinusSrcColor => GL_ONE_MINUS_SRC_COLOR,
-            BlendFactor::SrcAlpha => GL_SRC_ALPHA,
-            BlendFactor::OneMinusSrcAlpha => GL_ONE_MINUS_SRC_ALPHA,
-            BlendFactor::DstAlpha => GL_DST_ALPHA,
-            BlendFactor::OneMinusDstAlpha => GL_ONE_MINUS_DST_ALPHA,
-            BlendFactor::DstColor => GL_DST_COLOR,
-            BlendFactor::OneMinusDstColor => GL_ONE_MINUS_DST_COLOR,
-            BlendFactor::SrcAlphaSaturate => GL_SRC_ALPHA_SATURATE,
-        }
+        v as u32
     }
 }
 
@@ -173,23 +156,13 @@ impl BlendFactor {
 fn splat(v: f32) -> Rgba
     ensures { result ≡ splat_of v }
 {
-    Rgba {
-        r: v,
-        g: v,
-        b: v,
-        a: v,
-    }
+    Rgba::from([v; 4])
 }
 
 fn one_minus(v: Rgba) -> Rgba
     ensures { result ≡ one_minus v }
 {
-    Rgba {
-        r: 1.0 - v.r,
-        g: 1.0 - v.g,
-        b: 1.0 - v.b,
-        a: 1.0 - v.a,
-    }
+    v.map(|x| 1.0 - x)
 }
 
 // SrcAlphaSaturate: its alpha channel is 1.
@@ -197,20 +170,15 @@ fn saturated(src: f32, dst: f32) -> Rgba
     ensures { result ≡ saturated_of src dst }
 {
     let f = floats::min(src, 1.0 - dst);
-    Rgba {
-        r: f,
-        g: f,
-        b: f,
-        a: 1.0,
-    }
+    Rgba { a: 1.0, ..splat(f) }
 }
 
 // Which faces are discarded.
 #[derive(Clone, Copy, Debug, PartialEq, Eq, Hash)]
 pub enum CullMode {
-    Front,
-    Back,
-    FrontAndBack,
+    Front = GL_FRONT as isize,
+    Back = GL_BACK as isize,
+    FrontAndBack = GL_FRONT_AND_BACK as isize,
 }
 
 // Refused, a mode's code is unknown.
@@ -219,7 +187,8 @@ impl TryFrom<u32> for CullMode {
 
     ghost try_from_gives = { λ code r. r ≡ mode_of code };
 
-    // Kept: one body for all kinds would search a table of codes and values, and each kind would still write its table out (2c, 7a)
+    // Kept: one body for all kinds would search a list of each kind's variants by u32::from; each kind would still write its list, and the
+    // search would need a proof that a match does not (2c, 7a)
     #[tactic(auto, using(std::proofs::lemmas::Bool::Decides::nat_tests), unfolding(crate::specs::Codes::mode_of))]
     fn try_from(code: u32) -> Result<Self, Refusal> {
         match code {
@@ -234,19 +203,16 @@ impl TryFrom<u32> for CullMode {
 impl From<CullMode> for u32 {
     ghost from_gives = { λ v r. r ≡ mode_code v };
 
+    // Kept: the code is the discriminant, and a trait has one impl for a type (2a, 4e)
     fn from(v: CullMode) -> u32 {
-        match v {
-            CullMode::Front => GL_FRONT,
-            CullMode::Back => GL_BACK,
-            CullMode::FrontAndBack => GL_FRONT_AND_BACK,
-        }
+        v as u32
     }
 }
 
 #[derive(Clone, Copy, Debug, PartialEq, Eq, Hash)]
 pub enum FrontFace {
-    Cw,
-    Ccw,
+    Cw = GL_CW as isize,
+    Ccw = GL_CCW as isize,
 }
 
 // Refused, a face's code is unknown.
@@ -255,7 +221,8 @@ impl TryFrom<u32> for FrontFace {
 
     ghost try_from_gives = { λ code r. r ≡ face_of code };
 
-    // Kept: one body for all kinds would search a table of codes and values, and each kind would still write its table out (2c, 7a)
+    // Kept: one body for all kinds would search a list of each kind's variants by u32::from; each kind would still write its list, and the
+    // search would need a proof that a match does not (2c, 7a)
     #[tactic(auto, using(std::proofs::lemmas::Bool::Decides::nat_tests), unfolding(crate::specs::Codes::face_of))]
     fn try_from(code: u32) -> Result<Self, Refusal> {
         match code {
@@ -269,22 +236,20 @@ impl TryFrom<u32> for FrontFace {
 impl From<FrontFace> for u32 {
     ghost from_gives = { λ v r. r ≡ face_code v };
 
+    // Kept: the code is the discriminant, and a trait has one impl for a type (2a, 4e)
     fn from(v: FrontFace) -> u32 {
-        match v {
-            FrontFace::Cw => GL_CW,
-            FrontFace::Ccw => GL_CCW,
-        }
+        v as u32
     }
 }
 
 // How a texture's colour combines with the fragment's.
 #[derive(Clone, Copy, Debug, PartialEq, Eq, Hash)]
 pub enum TexEnvMode {
-    Modulate,
-    Replace,
-    Decal,
-    Blend,
-    Add,
+    Modulate = GL_MODULATE as isize,
+    Replace = GL_REPLACE as isize,
+    Decal = GL_DECAL as isize,
+    Blend = GL_BLEND as isize,
+    Add = GL_ADD as isize,
 }
 
 // Refused, an environment's code is unknown.
@@ -293,7 +258,8 @@ impl TryFrom<u32> for TexEnvMode {
 
     ghost try_from_gives = { λ code r. r ≡ env_of code };
 
-    // Kept: one body for all kinds would search a table of codes and values, and each kind would still write its table out (2c, 7a)
+    // Kept: one body for all kinds would search a list of each kind's variants by u32::from; each kind would still write its list, and the
+    // search would need a proof that a match does not (2c, 7a)
     #[tactic(auto, using(std::proofs::lemmas::Bool::Decides::nat_tests), unfolding(crate::specs::Codes::env_of))]
     fn try_from(code: u32) -> Result<Self, Refusal> {
         match code {
@@ -310,22 +276,17 @@ impl TryFrom<u32> for TexEnvMode {
 impl From<TexEnvMode> for u32 {
     ghost from_gives = { λ v r. r ≡ env_code v };
 
+    // Kept: the code is the discriminant, and a trait has one impl for a type (2a, 4e)
     fn from(v: TexEnvMode) -> u32 {
-        match v {
-            TexEnvMode::Modulate => GL_MODULATE,
-            TexEnvMode::Replace => GL_REPLACE,
-            TexEnvMode::Decal => GL_DECAL,
-            TexEnvMode::Blend => GL_BLEND,
-            TexEnvMode::Add => GL_ADD,
-        }
+        v as u32
     }
 }
 
 #[derive(Clone, Copy, Debug, PartialEq, Eq, Hash)]
 pub enum FogMode {
-    Linear,
-    Exp,
-    Exp2,
+    Linear = GL_LINEAR_FOG as isize,
+    Exp = GL_EXP as isize,
+    Exp2 = GL_EXP2 as isize,
 }
 
 // Refused, a curve's code is unknown.
@@ -334,7 +295,8 @@ impl TryFrom<u32> for FogMode {
 
     ghost try_from_gives = { λ code r. r ≡ fog_of code };
 
-    // Kept: one body for all kinds would search a table of codes and values, and each kind would still write its table out (2c, 7a)
+    // Kept: one body for all kinds would search a list of each kind's variants by u32::from; each kind would still write its list, and the
+    // search would need a proof that a match does not (2c, 7a)
     #[tactic(auto, using(std::proofs::lemmas::Bool::Decides::nat_tests), unfolding(crate::specs::Codes::fog_of))]
     fn try_from(code: u32) -> Result<Self, Refusal> {
         match code {
@@ -349,18 +311,15 @@ impl TryFrom<u32> for FogMode {
 impl From<FogMode> for u32 {
     ghost from_gives = { λ v r. r ≡ fog_code v };
 
+    // Kept: the code is the discriminant, and a trait has one impl for a type (2a, 4e)
     fn from(v: FogMode) -> u32 {
-        match v {
-            FogMode::Linear => GL_LINEAR_FOG,
-            FogMode::Exp => GL_EXP,
-            FogMode::Exp2 => GL_EXP2,
-        }
+        v as u32
     }
 }
 
 // A colour of the pixel's way: straight, and in 0 to 1 where nothing else is said.
-// Kept: a colour of floats is blended and a mask of switches is tested, so that no method of the one serves the other; with a generic
-// `Rgba<T>` every contract would name `Rgba<f32>` or `Rgba<bool>` (2d)
+// Kept: with a generic `Rgba<T>` the 34 definitions in crates/*/specs whose types name Rgba or ColorMask would be over an applied type; map,
+// zip and the conversions to floats would be of colours alone, since a mask is only tested (2d)
 #[derive(Clone, Copy, Debug, Default, PartialEq)]
 pub struct Rgba {
     pub r: f32,
@@ -372,6 +331,7 @@ pub struct Rgba {
 impl From<[f32; 4]> for Rgba {
     ghost from_gives = { λ v c. c ≡ color_of v };
 
+    // Kept: a trait has one impl for a type: sampler's is of a colour of bytes (2c)
     fn from([r, g, b, a]: [f32; 4]) -> Rgba {
         Rgba { r, g, b, a }
     }
@@ -380,13 +340,50 @@ impl From<[f32; 4]> for Rgba {
 impl From<Rgba> for [f32; 4] {
     ghost from_gives = { λ c v. v ≡ channels_of c };
 
+    // Kept: a trait has one impl for a type: sampler's is of a colour of bytes (2a)
     fn from(c: Rgba) -> [f32; 4] {
         [c.r, c.g, c.b, c.a]
     }
 }
 
+impl Rgba {
+    // f of each channel.
+    #[inline(always)]
+    pub fn map<F: Fn(f32) -> f32>(self, f: F) -> Rgba
+        requires { F.pre f self.r × F.pre f self.g × F.pre f self.b × F.pre f self.a }
+        ensures red { F.post f self.r result.r }
+        ensures green { F.post f self.g result.g }
+        ensures blue { F.post f self.b result.b }
+        ensures alpha { F.post f self.a result.a }
+    {
+        Rgba {
+            r: f(self.r),
+            g: f(self.g),
+            b: f(self.b),
+            a: f(self.a),
+        }
+    }
+
+    // f of each channel and the other colour's.
+    #[inline(always)]
+    pub fn zip<F: Fn(f32, f32) -> f32>(self, other: Rgba, f: F) -> Rgba
+        requires { F.pre f self.r other.r × F.pre f self.g other.g × F.pre f self.b other.b × F.pre f self.a other.a }
+        ensures red { F.post f self.r other.r result.r }
+        ensures green { F.post f self.g other.g result.g }
+        ensures blue { F.post f self.b other.b result.b }
+        ensures alpha { F.post f self.a other.a result.a }
+    {
+        Rgba {
+            r: f(self.r, other.r),
+            g: f(self.g, other.g),
+            b: f(self.b, other.b),
+            a: f(self.a, other.a),
+        }
+    }
+}
+
 // Which channels a draw writes.
-// Kept: no method of a colour serves a mask, and `Rgba<bool>` in each contract is no plainer (2d)
+// Kept: a mask is only tested, so that no method of a colour serves it; the definitions are counted at Rgba (2d)
 #[derive(Clone, Copy, Debug, PartialEq, Eq, Hash)]
 pub struct ColorMask {
     pub r: bool,
@@ -436,22 +433,22 @@ pub struct PipelineState {
     pub depth_range: DepthRange,
     // Where a draw may write: the whole target, or a box of it.
     pub scissor: Option<ScissorBox>,
-    // Kept: the C interface hands the values in while the flag is off, and draw_bytes writes them back (1f)
+    // Kept: the source's own fields; a code is read, and an unknown one refused, while the flag is off too (1f)
     pub depth_test: bool,
     pub depth_func: CompareFunc,
     pub depth_write: bool,
-    // Kept: the C interface hands the values in while the flag is off, and draw_bytes writes them back (1f)
+    // Kept: the source's own fields; check 4 judges alpha_ref while the flag is off too (1f)
     pub alpha_test: bool,
     pub alpha_func: CompareFunc,
     pub alpha_ref: f32,
-    // Kept: the C interface hands the values in while the flag is off, and draw_bytes writes them back (1f)
+    // Kept: the source's own fields; a code is read, and an unknown one refused, while the flag is off too (1f)
     pub blend: bool,
     pub blend_src: BlendFactor,
     pub blend_dst: BlendFactor,
     pub cull: Option<CullMode>,
     pub front_face: FrontFace,
     pub color_mask: ColorMask,
-    // Kept: the C interface hands the values in while the flag is off, and draw_bytes writes them back (1f)
+    // Kept: the source's own fields; check 4 judges fog's numbers while the flag is off too (1f)
     pub fog: bool,
     pub fog_mode: FogMode,
     pub fog_color: Rgba,
@@ -469,7 +466,7 @@ impl PipelineState {
 
     pub const MAX_TEXTURE_STAGES: u32 = 4;
 
-    // Kept: probes and programs start from it by this name, and `Default` calls it (4m)
+    // Kept: the source has `Default` alone, which calls it; probes and programs start from `new` (4m)
     pub fn new() -> Self
         ensures { result ≡ default_state }
     {

@@ -17,7 +17,7 @@ use Rattle.settings.specs.declared.CullMode.{CullMode}
 abbrev pub raster_of : ScreenVertex → ScreenVertex → ScreenVertex → Option PixelBox → Option Raster
 raster_of a b c None = None
 raster_of a b c (Some box) =
-    Some (record { a = a; b = b; c = c; inv_area = one32 ⊘ area_of a b c; pixels = box })
+    Some (record { corners = record { a = a; b = b; c = c }; inv_area = one32 ⊘ area_of a b c; pixels = box })
 
 -- three corners on the screen: nothing where the area is 0 or not finite, where the face is discarded, and where no pixel is left
 unfoldable pub on_screen : FrontFace → Option CullMode → PixelBox → ScreenVertex → ScreenVertex → ScreenVertex → Option Raster

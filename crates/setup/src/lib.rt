@@ -2,39 +2,19 @@
 #![tactic(auto)]
 
 ghost use Rattle.std.specs.Prelude.{◌≡◌};
-ghost use Rattle.setup.specs.Box.{least_of, greatest_of, start_of, end_of, covered_of};
+ghost use Rattle.setup.specs.Box.{start_of, end_of, covered_of};
 ghost use Rattle.setup.specs.Setup.{setup_of, on_screen};
 
 use scissor::PixelBox;
-use screen::{ScreenTriangle, ScreenVertex, View};
+use screen::{ScreenTriangle, View};
 use settings::{CullMode, DepthRange, FrontFace};
 use vertices::Triangle;
 
 #[derive(Clone, Copy, Debug, PartialEq)]
 pub struct Raster {
-    pub a: ScreenVertex,
-    pub b: ScreenVertex,
-    pub c: ScreenVertex,
+    pub corners: ScreenTriangle,
     pub inv_area: f32,
     pub pixels: PixelBox,
-}
-
-// Kept: as `[a, b, c].into_iter().fold(f32::INFINITY, floats::min)`, goal `returns` stays open: `search` doesn't follow the calls of a
-// fold, of this and of greatest; and std's f32::min promises either zero. (2b, 2e, 4c)
-// Kept: one coordinate of three corners, for which each of four calls would make a struct or an array. (5c)
-#[tactic(auto, unfolding(crate::specs::Box::least_of))]
-fn least(a: f32, b: f32, c: f32) -> f32
-    ensures { result ≡ least_of a b c }
-{
-    floats::min(floats::min(floats::min(f32::INFINITY, a), b), c)
-}
-
-// Kept: as least is, with max. (2b, 4c, 5c)
-#[tactic(auto, unfolding(crate::specs::Box::greatest_of))]
-fn greatest(a: f32, b: f32, c: f32) -> f32
-    ensures { result ≡ greatest_of a b c }
-{
-    floats::max(floats::max(floats::max(f32::NEG_INFINITY, a), b), c)
 }
 
 // Kept: its twin box_end rounds the other way, adds one and takes the lesser: one function for both would be handed all three. (2e)
@@ -54,15 +34,17 @@ fn box_end(greatest: f32, hi: u32) -> u32
     (last.saturating_add(1).max(0) as u32).min(hi)
 }
 
+#[tactic(auto, unfolding(crate::specs::Box::covered_of, crate::specs::Box::least_of, crate::specs::Box::greatest_of))]
 pub fn covered_box(t: ScreenTriangle, within: PixelBox) -> Option<PixelBox>
     ensures { result ≡ covered_of t.a t.b t.c within }
 {
-    let ScreenTriangle { a, b, c } = t;
+    let x = t.map(|v| v.x);
+    let y = t.map(|v| v.y);
     scissor::box_of(
-        box_start(least(a.x, b.x, c.x), within.x0),
-        box_start(least(a.y, b.y, c.y), within.y0),
-        box_end(greatest(a.x, b.x, c.x), within.x1),
-        box_end(greatest(a.y, b.y, c.y), within.y1),
+        box_start(x.fold(f32::INFINITY, floats::min), within.x0),
+        box_start(y.fold(f32::INFINITY, floats::min), within.y0),
+        box_end(x.fold(f32::NEG_INFINITY, floats::max), within.x1),
+        box_end(y.fold(f32::NEG_INFINITY, floats::max), within.y1),
     )
 }
 
@@ -71,30 +53,28 @@ fn setup_screen(
     front_face: FrontFace,
     cull: Option<CullMode>,
     within: PixelBox,
-    t: ScreenTriangle,
+    corners: ScreenTriangle,
 ) -> Option<Raster>
-    ensures { result ≡ on_screen front_face cull within t.a t.b t.c }
+    ensures { result ≡ on_screen front_face cull within corners.a corners.b corners.c }
 {
-    let area = screen::signed_area(t);
+    let area = screen::signed_area(corners);
     if !screen::area_fits(area) {
         return None;
     }
     if screen::is_discarded(cull, screen::is_front(front_face, area)) {
         return None;
     }
-    let pixels = covered_box(t, within)?;
-    let ScreenTriangle { a, b, c } = t;
+    let pixels = covered_box(corners, within)?;
     Some(Raster {
-        a,
-        b,
-        c,
+        corners,
         inv_area: 1.0 / area,
         pixels,
     })
 }
 
-// Kept: each corner ends with `?` in its own name; over an array there is no `?` for one of them. (3f)
+// Kept: each corner ends with `?`; through `map` there is no `?` for one of them. (3f)
 // A triangle left by clipping, in a viewport above zero, cut to the pixels of a scissor's box.
+// Kept: a probe has these alone, and no settings to hand on (5)
 #[tactic(auto, unfolding(crate::specs::Setup::setup_of))]
 pub fn setup_triangle(
     view: View,
@@ -106,8 +86,10 @@ pub fn setup_triangle(
 ) -> Option<Raster>
     ensures { result ≡ setup_of view range front_face cull within t.a t.b t.c }
 {
-    let a = screen::screen_vertex(view, range, t.a)?;
-    let b = screen::screen_vertex(view, range, t.b)?;
-    let c = screen::screen_vertex(view, range, t.c)?;
-    setup_screen(front_face, cull, within, ScreenTriangle { a, b, c })
+    let corners = ScreenTriangle {
+        a: screen::screen_vertex(view, range, t.a)?,
+        b: screen::screen_vertex(view, range, t.b)?,
+        c: screen::screen_vertex(view, range, t.c)?,
+    };
+    setup_screen(front_face, cull, within, corners)
 }

@@ -11,7 +11,7 @@ use Rattle.gradients.specs.declared.PerCorner.{PerCorner}
 use Rattle.coverage.specs.declared.Primitive.{Primitive}
 use Rattle.stages.specs.Stages.{stage_at, texture_at, coordinates_of, stage_color, stage_step, stages_color}
 
-pub one_stage : (store : List ℕ) (stages : List TextureStage) (n : ℕ) (xs : List Texture) (t : Primitive) (w : PerCorner) (rec : Float) (frag : Rgba) → n ≡ 1
+pub one_stage : (store : List ℕ) (stages : List TextureStage) (n : ℕ) (xs : List Texture) (t : Primitive) (w : PerCorner Float) (rec : Float) (frag : Rgba) → n ≡ 1
     → stage_color store (stage_at stages 0) (texture_at xs 0) (coordinates_of t w rec (stage_at stages 0).unit) frag ≡ stages_color store stages n xs t w rec frag
 unfolding stages_color iter stage_step
 one_stage store stages n xs t w rec frag e = rw e

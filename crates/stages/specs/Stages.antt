@@ -35,11 +35,11 @@ abbrev pub texture_at : List Texture → ℕ → Texture
 texture_at xs i = get_or xs i no_texture
 
 -- unit u's coordinates of the three corners stand at 2 u and 2 u + 1
-abbrev pub texcoords : Primitive → ℕ → PerCorner
-texcoords t i = corners_at i t.a.texcoord t.b.texcoord t.c.texcoord
+abbrev pub texcoords : Primitive → ℕ → PerCorner Float
+texcoords t i = corners_at i t.vertices.a.texcoord t.vertices.b.texcoord t.vertices.c.texcoord
 
 -- raster.rs, raster_clipped: s and t of a unit with their four derivatives. They are the unit's, whatever place the stage has.
-unfoldable pub coordinates_of : Primitive → PerCorner → Float → ℕ → Coordinates
+unfoldable pub coordinates_of : Primitive → PerCorner Float → Float → ℕ → Coordinates
 coordinates_of t w rec u =
     let s = attribute_of (texcoords t (u * 2)) w rec t.derivatives in
     let r = attribute_of (texcoords t (u * 2 + 1)) w rec t.derivatives in
@@ -53,16 +53,16 @@ unfoldable pub stage_color : List ℕ → TextureStage → Texture → Coordinat
 stage_color store stage x p frag = cond (complete (level_of x 0)) (tex_env_of stage frag (texel_color (sample_of store x p))) frag
 
 -- stage i, from the colour that the stage before it left. xs: the records that the stages read, stage by stage
-unfoldable pub stage_step : List ℕ → List TextureStage → List Texture → Primitive → PerCorner → Float → ℕ → Rgba → Rgba
+unfoldable pub stage_step : List ℕ → List TextureStage → List Texture → Primitive → PerCorner Float → Float → ℕ → Rgba → Rgba
 stage_step store stages xs t w rec i frag =
     stage_color store (stage_at stages i) (texture_at xs i) (coordinates_of t w rec (stage_at stages i).unit) frag
 
 -- the first n stages in turn
-unfoldable pub stages_color : List ℕ → List TextureStage → ℕ → List Texture → Primitive → PerCorner → Float → Rgba → Rgba
+unfoldable pub stages_color : List ℕ → List TextureStage → ℕ → List Texture → Primitive → PerCorner Float → Float → Rgba → Rgba
 stages_color store stages n xs t w rec frag = iter n (stage_step store stages xs t w rec) frag
 
 -- Document 01, Demand 3: the addresses of the store's bytes that the stages take, stage by stage
-unfoldable pub stages_addresses : List TextureStage → ℕ → List Texture → Primitive → PerCorner → Float → List ℕ
+unfoldable pub stages_addresses : List TextureStage → ℕ → List Texture → Primitive → PerCorner Float → Float → List ℕ
 stages_addresses stages n xs t w rec = flat n (λ i. addresses_of (texture_at xs i) (coordinates_of t w rec (stage_at stages i).unit))
 
 -- what checks 6 and 8 show of the stages in use; len: the store's length

@@ -1,3 +1,4 @@
 pub mod Images
 pub mod Plains
 pub mod Expands
+pub mod Lents

@@ -1,3 +1,4 @@
 pub mod Image
 pub mod Texels
 pub mod Plain
+pub mod Lent

@@ -3,7 +3,8 @@ use mathlib.Core.Bool.{Bool, true, false, cond}
 use mathlib.Core.Path.{◌≡◌, refl, sym, ap, ◌∙◌}
 use Prim.Native.Nat.{ℕ}
 use lib.Dec.{eqb}
-use Rattle.std.proofs.Common.{Result, Ok, Err}
+use Rattle.std.proofs.Common.{Result, Ok, Err, MatchResult}
+use Rattle.std.specs.Result.{IsOkAnd}
 use Rattle.answers.specs.declared.Refusal.{Refusal}
 use Rattle.answers.specs.declared.Refusal.TheVariants.{Code}
 use Rattle.answers.specs.Numbers.{refusal_number}
@@ -15,6 +16,7 @@ use Rattle.levels.specs.declared.Texture.{Texture}
 use Rattle.levels.specs.Codes.{min_filter_of, filter_of, wrap_of}
 use Rattle.texture.specs.declared.Parameter.{Parameter}
 use Rattle.texture.specs.declared.Parameter.TheVariants as parameter
+use Rattle.texture.specs.Define.{record_after}
 use Rattle.texture.specs.Parameters.{ignored, parameter_of, set_check, set_record, with_min_filter, with_mag_filter, with_wrap_s, with_wrap_t, Setting, setting, set_of}
 
 -- one of six, as the name is the first, the second, ..
@@ -76,5 +78,18 @@ module _ (t : Texture) (p v : ℕ) where
 abbrev pub settled : {F : Type 0} → Texture → (Result F Refusal → Texture) → Result F Refusal → Setting
 settled t make r = cond (eqb (answer_number r) 0) (setting 0 (make r)) (setting (answer_number r) t)
 
-pub settled_err : {F : Type 0} (t : Texture) (make : Result F Refusal → Texture) (why : Refusal) → setting (refusal_number why) t ≡ settled t make (Err why)
+settled_err : {F : Type 0} (t : Texture) (make : Result F Refusal → Texture) (why : Refusal) → setting (refusal_number why) t ≡ settled t make (Err why)
 settled_err t make why = no _ (refused_test why _ refl) refl
+
+module _ (t : Texture) (p v : ℕ) where
+  -- the name is unknown
+  pub unnamed : (why : Refusal) → Err why ≡ parameter_of p → setting (refusal_number why) t ≡ set_of t p v
+  unnamed why e = settled_err {F = Parameter} t (λ r. t) why ∙ named t p v (Err why) e
+
+  -- the name stands for q, whose value is read as `read`; x is the record with that value
+  pub valued : {F : Type 0} (q : Parameter) (make : Result F Refusal → Texture) (Made : F → Texture → Type 0) (read of : Result F Refusal) (x : Result Texture Refusal)
+      → MatchResult read (λ f. IsOkAnd x (Made f)) (λ why. x ≡ Err why) → ((f : F) (y : Texture) → Made f y → y ≡ make (Ok f)) → read ≡ of
+      → set_by t p v (Ok q) ≡ settled t make of → Ok q ≡ parameter_of p → setting (answer_number x) (record_after t x) ≡ set_of t p v
+  valued q make Made (Ok f) of (Ok y) m is e s n = rw (is f y m) (ap (settled t make) e ∙ sym s ∙ named t p v (Ok q) n)
+  valued q make Made (Ok f) of (Err why) m is e s n = absurd m
+  valued q make Made (Err why) of x m is e s n = rw m (settled_err t make why ∙ ap (settled t make) e ∙ sym s ∙ named t p v (Ok q) n)

@@ -12,7 +12,8 @@ ghost use Rattle.texture.specs.Patch.{rectangle_check, patch_row, patch_store, p
 ghost use Rattle.texture.specs.Parameters.{parameter_of, setting, set_of};
 
 use answers::Refusal;
-use levels::{Filter, MinFilter, MipLevel, Record, Stored, Texture, Wrap};
+use levels::{Filter, LEVELS, MinFilter, MipLevel, Record, Stored, Texture, Wrap};
+use std::array;
 
 #[tactic(auto, using(std::proofs::lemmas::Bool::Decides::nat_tests), unfolding(crate::specs::Define::stays))]
 fn stay_at(m: MipLevel, k: usize, i: usize) -> MipLevel
@@ -26,14 +27,10 @@ fn stay_at(m: MipLevel, k: usize, i: usize) -> MipLevel
 }
 
 // The levels that stay where level k is defined.
-#[tactic(auto, using(lists::proofs::Tables::tab_none))]
-fn staying(mut levels: [MipLevel; 11], k: usize) -> [MipLevel; 11]
+fn staying(levels: [MipLevel; LEVELS], k: usize) -> [MipLevel; LEVELS]
     ensures { result ≡ stay levels k }
 {
-    for (i, m) in levels.iter_mut().enumerate() {
-        *m = stay_at(*m, k, i);
-    }
-    levels
+    array::from_fn(|i| stay_at(levels[i], k, i))
 }
 
 // A level to be entered: which of the eleven, where it is to stand, and sides of at most 1,024.
@@ -50,11 +47,12 @@ impl Entry {
     fn new(k: u32, place: usize, width: u32, height: u32) -> Result<Self, Refusal>
         ensures { MatchResult result (λ e. (enterable k width height ≡ true) × (e.k ≡ k) × (e.m ≡ level_at place width height)) (λ why. (enterable k width height ≡ false) × (why ≡ Refusal.Side)) }
     {
-        if 1024 < width || 1024 < height || 10 < k {
+        let k = k as usize;
+        if MipLevel::MAX_SIDE < width || MipLevel::MAX_SIDE < height || LEVELS <= k {
             return Err(Refusal::Side);
         }
         Ok(Entry {
-            k: k as usize,
+            k,
             m: MipLevel {
                 present: true,
                 place,
@@ -65,19 +63,16 @@ impl Entry {
     }
 
     // Whether its place in the store is free.
-    fn place_check(self, levels: [MipLevel; 11], store: &[u8]) -> Result<(), Refusal>
+    fn place_check(self, levels: [MipLevel; LEVELS], store: &[u8]) -> Result<(), Refusal>
         requires { all (fits (length store.now)) levels ≡ true }
         ensures { answer_number result ≡ place_check (length store.now) levels self.k self.m }
     {
         let len = store.len();
-        if !levels::does_fit(self.m, len) {
-            return Err(Refusal::Place);
-        }
         let others = Stored {
             levels: staying(levels, self.k),
             len,
         };
-        if others.any_overlap(0, self.m) {
+        if !levels::does_fit(self.m, len) || others.any_overlap(0, self.m) {
             return Err(Refusal::Place);
         }
         Ok(())
@@ -98,7 +93,7 @@ impl Entry {
     }
 
     #[tactic(auto, unfolding(crate::specs::Define::enter_level))]
-    fn put_among(self, levels: [MipLevel; 11]) -> [MipLevel; 11]
+    fn put_among(self, levels: [MipLevel; LEVELS]) -> [MipLevel; LEVELS]
         ensures { result ≡ enter_level levels self.k self.m }
     {
         let mut next = staying(levels, self.k);
@@ -172,10 +167,9 @@ impl<'a> Patch<'a> {
         ensures number { answer_number result ≡ rectangle_check m area.x area.y area.width area.height (length texels.now) }
         ensures patch { IfOk result (λ p. (p.m ≡ m) × (p.area ≡ area) × (p.texels.now ≡ texels.now)) }
     {
-        if (m.width as usize) < (area.x as usize) + (area.width as usize) {
-            return Err(Refusal::Rectangle);
-        }
-        if (m.height as usize) < (area.y as usize) + (area.height as usize) {
+        if (m.width as usize) < (area.x as usize) + (area.width as usize)
+            || (m.height as usize) < (area.y as usize) + (area.height as usize)
+        {
             return Err(Refusal::Rectangle);
         }
         if texels.len() < (area.height as usize) * (area.width as usize) * 4 {
@@ -224,11 +218,9 @@ pub fn patch_level<R: Record>(
     if !texture.is_valid(store.len()) {
         return Err(Refusal::Record);
     }
-    if 10 < level {
-        return Err(Refusal::Level);
-    }
-    let m = texture.image_level(level as usize);
-    if !m.present {
+    let k = level as usize;
+    let m = texture.image_level(k);
+    if LEVELS <= k || !m.present {
         return Err(Refusal::Level);
     }
     let area = Rectangle {
@@ -281,22 +273,16 @@ pub fn set_parameter(texture: Texture, pname: u32, value: u32) -> Result<Texture
     ensures { setting (answer_number result) (record_after texture result) ≡ set_of texture pname value }
 {
     match Parameter::try_from(pname)? {
-        Parameter::MinFilter => Ok(Texture {
-            min_filter: MinFilter::try_from(value)?,
+        Parameter::MinFilter => MinFilter::try_from(value).map(|min_filter| Texture {
+            min_filter,
             ..texture
         }),
-        Parameter::MagFilter => Ok(Texture {
-            mag_filter: Filter::try_from(value)?,
+        Parameter::MagFilter => Filter::try_from(value).map(|mag_filter| Texture {
+            mag_filter,
             ..texture
         }),
-        Parameter::WrapS => Ok(Texture {
-            wrap_s: Wrap::try_from(value)?,
-            ..texture
-        }),
-        Parameter::WrapT => Ok(Texture {
-            wrap_t: Wrap::try_from(value)?,
-            ..texture
-        }),
+        Parameter::WrapS => Wrap::try_from(value).map(|wrap_s| Texture { wrap_s, ..texture }),
+        Parameter::WrapT => Wrap::try_from(value).map(|wrap_t| Texture { wrap_t, ..texture }),
         Parameter::Ignored => Ok(texture),
     }
 }

@@ -1,8 +1,9 @@
 -- What a sample answers and leaves, over a record's layout and the store: docs/INTERFACE.md, Sampling.
-use Rattle.std.specs.Prelude.{List, ℕ, ◌+◌, ◌*◌, Float}
+use Rattle.std.specs.Prelude.{List, ℕ, Float}
 use Rattle.std.specs.Option.{option_map_or}
 use Rattle.mipmaps.specs.declared.Coordinates.{Coordinates}
 use Rattle.sampler.specs.declared.Texel.{Texel}
+use Rattle.sampler.specs.Texels.{packed_of}
 use Rattle.sampler.specs.Samples.{Outcome, refused, sampled, sample_call}
 use Rattle.layouts.specs.Records.{read_of}
 
@@ -11,7 +12,7 @@ coordinates s t dsdx dtdx dsdy dtdy = record { s = s; t = t; dsdx = dsdx; dtdx =
 
 -- a texel as one number, red in its lowest byte
 abbrev pub packed : Texel → ℕ
-packed x = x.r + x.g * 256 + x.b * 65536 + x.a * 16777216
+packed = packed_of
 
 -- an answer, and the texel's number
 pub record Told : Type 0 where

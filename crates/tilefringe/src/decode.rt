@@ -4,6 +4,8 @@ ghost use Rattle.texels.specs.Texels.{format_of, format_bytes};
 ghost use Rattle.texels.specs.Plain.{plain_check, plain_left};
 ghost use Rattle.compressed.specs.Compressed.{compressed_of, size_of, size_check, compressed_check, compressed_left};
 
+use crate::give;
+
 #[unsafe(no_mangle)]
 pub extern "C" fn tf_bytes_per_texel(format: u32, ty: u32) -> usize
     ensures { result ≡ format_bytes (format_of format ty) }
@@ -47,11 +49,8 @@ pub extern "C" fn tf_compressed_image_size(
 ) -> u32
     ensures { (result ≡ size_check (compressed_of format) width height) × (size.new ≡ cond (eqb (size_check (compressed_of format) width height) 0) (size_of (compressed_of format) width height) size.old) }
 {
-    match compressed::compressed_image_size(format, width, height) {
-        Ok(n) => {
-            *size = n;
-            0
-        }
-        Err(why) => why.number(),
-    }
+    give(
+        compressed::compressed_image_size(format, width, height),
+        size,
+    )
 }

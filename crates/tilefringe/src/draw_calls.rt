@@ -2,11 +2,9 @@
 ghost use Rattle.std.specs.Prelude.{◌≡◌, []};
 ghost use Rattle.tilefringe.specs.DrawCalls.{called, call_number, draw_call};
 
+use crate::WRONG_LAYOUT;
 use answers::Refusal;
 use vertices::Triangle;
-
-// 255 * 2^32: a layout holds nothing.
-const WRONG_LAYOUT: u64 = 1095216660480;
 
 // The refusal's number above, and the count of pixel writes below.
 // Kept: the C interface's one number. (1k)
@@ -14,7 +12,7 @@ fn call_number(answer: Option<Result<usize, Refusal>>) -> u64
     ensures { result ≡ call_number answer }
 {
     match answer {
-        None => WRONG_LAYOUT,
+        None => u64::from(WRONG_LAYOUT) * 4294967296,
         Some(Ok(n)) => n as u64,
         Some(Err(why)) => u64::from(why.number()) * 4294967296,
     }

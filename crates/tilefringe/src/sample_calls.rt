@@ -1,15 +1,9 @@
 // Samples. A record is lent as its layout.
 ghost use Rattle.std.specs.Prelude.{◌≡◌, ◌<◌};
-ghost use Rattle.tilefringe.specs.SampleCalls.{coordinates, packed, told, layout_sample};
+ghost use Rattle.tilefringe.specs.SampleCalls.{coordinates, told, layout_sample};
 
+use crate::{WRONG_LAYOUT, give};
 use mipmaps::Coordinates;
-use sampler::Texel;
-
-fn packed_texel(x: Texel) -> u32
-    ensures { result ≡ packed x }
-{
-    u32::from_le_bytes([x.r, x.g, x.b, x.a])
-}
 
 #[unsafe(no_mangle)]
 pub extern "C" fn tf_sample(
@@ -26,7 +20,7 @@ pub extern "C" fn tf_sample(
     ensures { told result texel.new ≡ layout_sample layout.now store.now (coordinates s t dsdx dtdx dsdy dtdy) texel.old }
 {
     let Some(texture) = layouts::read_record(layout) else {
-        return 255; // Kept: the C interface's answer for a layout that holds no record. (1j)
+        return WRONG_LAYOUT; // Kept: the C interface's answer for a layout that holds no record. (1j)
     };
     let p = Coordinates {
         s,
@@ -36,11 +30,5 @@ pub extern "C" fn tf_sample(
         dsdy,
         dtdy,
     };
-    match sampler::sample(store, texture, p) {
-        Ok(x) => {
-            *texel = packed_texel(x);
-            0
-        }
-        Err(why) => why.number(),
-    }
+    give(sampler::sample(store, texture, p).map(u32::from), texel)
 }

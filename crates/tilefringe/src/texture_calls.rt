@@ -5,12 +5,10 @@ ghost use Rattle.levels.specs.declared.Texture.{Texture};
 ghost use Rattle.texture.specs.Define.{record_after};
 ghost use Rattle.tilefringe.specs.TextureCalls.{lent, written, new_call, define_call, patch_call, set_call};
 
+use crate::WRONG_LAYOUT;
 use answers::Refusal;
 use layouts::Layout;
 use levels::Texture;
-
-// A layout holds no record.
-const WRONG_LAYOUT: u32 = 255;
 
 // Rewrites the layout with the record that a call has left, where it is done.
 fn write_back(layout: &mut [u8], answer: Result<Texture, Refusal>) -> Result<(), Refusal>
@@ -26,7 +24,7 @@ fn write_back(layout: &mut [u8], answer: Result<Texture, Refusal>) -> Result<(),
 pub extern "C" fn tf_new_texture(layout: &mut [u8]) -> u32
     ensures { lent result layout.new [] ≡ new_call layout.old }
 {
-    if layout.len() != 244 {
+    if layout.len() != layouts::SIZE {
         return WRONG_LAYOUT; // Kept: the C interface's answer; a Result would need a twin of each call beside it. (1j)
     }
     layouts::write_record(layout, Texture::new());

@@ -5,6 +5,9 @@ ghost use Rattle.std.specs.Prelude.{◌≡◌, ◌<◌};
 ghost use Rattle.std.specs.List.{list_all};
 ghost use Rattle.vertices.specs.Vertex.{new_vertex, mix_of, mix_at, mixed, lerp, plane_at, distance, inside, inside_frustum};
 
+use gradients::PerCorner;
+use std::array;
+
 #[derive(Clone, Copy, Debug, PartialEq)]
 pub struct Vertex {
     // Clip-space position, w not yet divided out.
@@ -15,13 +18,7 @@ pub struct Vertex {
     pub fog_depth: f32,
 }
 
-// The corners of a triangle, in the order in which they are given.
-#[derive(Clone, Copy, Debug, PartialEq)]
-pub struct Triangle {
-    pub a: Vertex,
-    pub b: Vertex,
-    pub c: Vertex,
-}
+pub type Triangle = PerCorner<Vertex>;
 
 // The six sides of the frustum, and w above 0.
 #[derive(Clone, Copy, Debug, PartialEq, Eq, Hash)]
@@ -49,19 +46,12 @@ impl Plane {
 }
 
 // The plane at a place of that order; past its end, the last.
+// Kept: a probe of the C interface alone asks for a plane by its place, and has no refusal to answer (1l, 1n)
 impl From<usize> for Plane {
     ghost from_gives = { λ n p. p ≡ plane_at n };
 
     fn from(n: usize) -> Self {
-        match n {
-            0 => Plane::Left,
-            1 => Plane::Right,
-            2 => Plane::Bottom,
-            3 => Plane::Top,
-            4 => Plane::Near,
-            5 => Plane::Far,
-            _ => Plane::PositiveW,
-        }
+        Plane::ALL.get(n).copied().unwrap_or(Plane::PositiveW)
     }
 }
 
@@ -76,12 +66,12 @@ fn mix(x: f32, y: f32, t: f32) -> f32
 fn mix_each<const N: usize>(a: &[f32; N], b: &[f32; N], t: f32) -> [f32; N]
     ensures { result ≡ mixed N t a.now b.now }
 {
-    let mut mixed = [0.0; N];
-    // Kept: with `array::from_fn` goal `returns` stays open: of a closure in a function generic in N, `search` finds no call's result. (3c)
-    for i in 0..N {
-        mixed[i] = mix(a[i], b[i], t);
-    }
-    mixed
+    array::from_fn(
+        |i: usize| -> f32
+            requires { i < N }
+            ensures { result ≡ mix_at t a.entry.now b.entry.now i }
+        { mix(a[i], b[i], t) },
+    )
 }
 
 const CLIP_W_EPSILON: f32 = 1.0e-8;

@@ -8,9 +8,8 @@ use Prim.Native.Nat.{ℕ}
 use lib.Dec.{eqb}
 use lib.Ieee.{Float}
 use borrow.Author.Tests.{eqb-true}
-use Rattle.std.proofs.lemmas.Bool.{true≢false, false≢true}
+use Rattle.std.proofs.lemmas.Bool.{true≢false, and_parts}
 use Rattle.lists.specs.Lists.{all}
-use Rattle.lists.proofs.Choice.{was_true}
 use Rattle.scissor.specs.Scissor.{pixel_in}
 use Rattle.isolation.specs.Machine.{Guest, Moment, In, Own, answer, WritesAt, ReadsAt}
 use Rattle.isolation.specs.Acts.{Uses}
@@ -49,11 +48,10 @@ owned g none e = tt
 owned g (some h) e = eqb-true h g e
 
 pub all_owned : (g : Guest) (last : Place → Option Guest) (l : List ℕ) → all (λ b. owned_by g (last (byte b))) l ≡ true → (b : ℕ) → In b l → Own g (last (byte b))
-unfolding all
 all_owned g last [] e b m = absurd m
 all_owned g last (x ∷ l) e b (inl q) =
-    subst (λ (k : ℕ). Own g (last (byte k))) (sym q) (owned g (last (byte x)) (was_true (owned_by g (last (byte x))) e false≢true).0)
-all_owned g last (x ∷ l) e b (inr m) = all_owned g last l (was_true (owned_by g (last (byte x))) e false≢true).1 b m
+    subst (λ (k : ℕ). Own g (last (byte k))) (sym q) (owned g (last (byte x)) (and_parts (owned_by g (last (byte x))) _ e).0)
+all_owned g last (x ∷ l) e b (inr m) = all_owned g last l (and_parts (owned_by g (last (byte x))) _ e).1 b m
 
 -- ---- one call
 

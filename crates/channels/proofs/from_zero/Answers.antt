@@ -1,9 +1,7 @@
-use mathlib.Core.Path.{refl}
-use Rattle.lists.proofs.Choice.{yes, no}
+use lib.Ieee.{of_bits, lt, ne}
+use Rattle.floats.specs.Num.{max_of}
 use Rattle.channels.proofs.from_zero.Goals as goal
 
-pub returns-then-x : goal.returns-then-x
-returns-then-x c = yes _ c.if-x.true refl
-
-pub returns-else-x : goal.returns-else-x
-returns-else-x c = no _ c.if-x.false refl
+pub returns : goal.returns
+unfolding max_of of_bits lt ne
+returns c = c.max.ensures

@@ -3,7 +3,7 @@ use lib.Ieee.{of_bits, lt}
 use Rattle.channels.proofs.Scaled.{scaled_part, scaled_byte}
 use Rattle.channels.proofs.to_byte.Goals as goal
 
--- Kept: tried without it: the check does not compute std's of_bits and lt by itself, and held-requires stays open (8a)
+-- Kept: tried without it: the check does not compute of_bits and lt, an attribute cannot name what is of lib, and held-requires stays open (8a)
 pub held-requires : goal.held-requires
 unfolding of_bits lt
 held-requires c = refl

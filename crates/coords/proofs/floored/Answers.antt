@@ -11,13 +11,13 @@ pub returns-then-x-2 : goal.returns-then-x-2
 returns-then-x-2 c = held_whole _ _ _ (record { sfits = c.from.type_inv }) _ c.from.ensures (floored_above _ _ (record { above = c.if-x.true; below = c.if-x-2.true }) c.whole_part-n.ensures.value)
 
 pub below_part-n-requires : goal.below_part-n-requires
-below_part-n-requires c = record { above = minus_above _ c.if-x-3.true; below = c.if-y.true }
+below_part-n-requires c = record { above = minus_above _ c.if-x-3.true; below = c.if-x-4.true }
 
-pub int_to_float-result-then-y : goal.int_to_float-result-then-y
-int_to_float-result-then-y c = small_float _ (omega (arith, c.below_part-n.ensures.0))
+pub int_to_float-result-then-x-4 : goal.int_to_float-result-then-x-4
+int_to_float-result-then-x-4 c = small_float _ (omega (arith, c.below_part-n.ensures.0))
 
-pub returns-then-y : goal.returns-then-y
-returns-then-y c = held_below _ _ _ (record { sfits = c.from-then-y.type_inv }) _ c.below_part-n.ensures.0 c.from-then-y.ensures (floored_below _ _ _ refl c.below_part-n.ensures.1)
+pub returns-then-x-4 : goal.returns-then-x-4
+returns-then-x-4 c = held_below _ _ _ (record { sfits = c.from-then-x-4.type_inv }) _ c.below_part-n.ensures.0 c.from-then-x-4.ensures (floored_below _ _ _ refl c.below_part-n.ensures.1)
 
 pub whole_part-n-requires-clause-part : goal.whole_part-n-requires-clause-part
 unfolding of_bits

@@ -1,34 +1,37 @@
-use Rattle.std.proofs.Common.{sym, ◌∙◌, length, rules}
+use Rattle.std.proofs.Common.{sym, ◌∙◌, rules}
 use Rattle.std.proofs.lemmas.List.{length-take-le}
 use Rattle.std.proofs.lemmas.Result.{err_from_is_err_and}
-use Rattle.draw_checks.proofs.Passed.{early_target, early_stages, stages_do_fit, late_records}
-use Rattle.draw_checks.proofs.Cut.{stages_cut, late_cut}
-use Rattle.draw.proofs.Cut.{in_use, bound_cut}
+use Rattle.draw_checks.proofs.Passed.{early_target, early_stages}
+use Rattle.draw_checks.proofs.Cut.{stages_cut}
+use Rattle.draw.proofs.Cut.{in_use}
+use Rattle.draw.proofs.Bound.{each, late_is, fits, drawn_is}
 use Rattle.draw.proofs.Passed.{refused_early, refused_late, drew_it}
 use Rattle.draw.proofs.draw_triangle.Goals as goal
 
 pub slice_bounds-stages-end : goal.slice_bounds-stages-end
 slice_bounds-stages-end c = in_use c.args.stages _ _ (early_stages _ _ _ _ c.args.state _ _ (sym c.in_ok-check_early.ensures)) (search rules)
 
-pub slice_bounds-bind-end : goal.slice_bounds-bind-end
-slice_bounds-bind-end c = sym (length-take-le _ _ (in_use c.args.stages _ _ (early_stages _ _ _ _ c.args.state _ _ (sym c.in_ok-check_early.ensures)) (search rules)))
+pub slice_bounds-stages-end-2 : goal.slice_bounds-stages-end-2
+slice_bounds-stages-end-2 c = sym (length-take-le _ _ (in_use c.args.stages _ _ (early_stages _ _ _ _ c.args.state _ _ (sym c.in_ok-check_early.ensures)) (search rules)))
 
-pub bind-textures-requires : goal.bind-textures-requires
-bind-textures-requires c =
+pub slice_bounds-textures-end : goal.slice_bounds-textures-end
+slice_bounds-textures-end c = sym (length-take-le _ _ (in_use c.args.stages _ _ (early_stages _ _ _ _ c.args.state _ _ (sym c.in_ok-check_early.ensures)) (search rules)))
+
+pub bind-bound-requires : goal.bind-bound-requires
+bind-bound-requires c =
     let fit = early_stages _ _ _ _ c.args.state _ _ (sym c.in_ok-check_early.ensures) in
     stages_cut c.args.stages c.args.count (in_use c.args.stages _ _ fit (search rules)) fit
 
-pub slice_bounds-textures-end : goal.slice_bounds-textures-end
-slice_bounds-textures-end c = in_use c.args.stages _ _ (early_stages _ _ _ _ c.args.state _ _ (sym c.in_ok-check_early.ensures)) (search rules)
-
-pub slice_bounds-check_late-end : goal.slice_bounds-check_late-end
-slice_bounds-check_late-end c = sym (length-take-le _ _ (in_use c.args.stages _ _ (early_stages _ _ _ _ c.args.state _ _ (sym c.in_ok-check_early.ensures)) (search rules)))
+pub slice_bounds-bound-end : goal.slice_bounds-bound-end
+slice_bounds-bound-end c = in_use c.args.stages _ _ (early_stages _ _ _ _ c.args.state _ _ (sym c.in_ok-check_early.ensures)) (search rules)
 
 pub invariant_of-stages : goal.invariant_of-stages
 invariant_of-stages c =
     let fit = early_stages _ _ _ _ c.args.state _ _ (sym c.in_ok-check_early.ensures) in
-    let late = late_cut (length c.args.store.now) c.args.count c.bind-textures.result c.args.t.a c.args.t.b c.args.t.c (in_use c.args.stages _ _ fit (search rules)) in
-    record { fit = stages_do_fit _ _ fit _ _ (late_records _ _ _ _ _ _ (sym late ∙ sym c.in_ok-check_late.ensures)) }
+    record {
+      each = each c.args.stages c.args.count c.args.units c.bind-bound.result fit (search rules) (search rules) c.bind-bound.ensures;
+      fit = fits c.args.stages c.args.count c.args.units c.bind-bound.result fit (search rules) (search rules) c.bind-bound.ensures _ _ _ _ (sym c.in_ok-check_late.ensures);
+    }
 
 pub draw_checked-requires : goal.draw_checked-requires
 draw_checked-requires c = early_target _ _ _ _ c.args.state _ _ (sym c.in_ok-check_early.ensures)
@@ -37,9 +40,8 @@ pub returns : goal.returns
 returns c =
     let early = sym c.in_ok-check_early.ensures in
     let fit = early_stages _ _ _ _ c.args.state _ _ early in
-    let bound = c.bind-textures.ensures ∙ bound_cut c.args.stages c.args.count c.args.units (in_use c.args.stages _ _ fit (search rules)) in
-    let late = sym (late_cut (length c.args.store.now) c.args.count c.bind-textures.result c.args.t.a c.args.t.b c.args.t.c (in_use c.args.stages _ _ fit (search rules))) ∙ sym c.in_ok-check_late.ensures in
-    drew_it _ c.args.width c.args.height c.args.state c.args.stages c.args.count c.args.t.a c.args.t.b c.args.t.c c.args.units _ _ early (rw bound at late) (c.draw_checked.ensures ∙ rw bound)
+    let late = sym (late_is c.args.stages c.args.count c.args.units c.bind-bound.result fit (search rules) (search rules) c.bind-bound.ensures _ _ _ _) ∙ sym c.in_ok-check_late.ensures in
+    drew_it _ c.args.width c.args.height c.args.state c.args.stages c.args.count c.args.t.a c.args.t.b c.args.t.c c.args.units _ _ early late (c.draw_checked.ensures ∙ drawn_is c.args.stages c.args.count c.args.units c.bind-bound.result fit (search rules) (search rules) c.bind-bound.ensures _ c.args.state _ _ _ _ _ _)
 
 pub returns-in_err-check_early : goal.returns-in_err-check_early
 returns-in_err-check_early c =
@@ -50,7 +52,6 @@ pub returns-in_err-check_late : goal.returns-in_err-check_late
 returns-in_err-check_late c =
     let early = sym c.in_ok-check_early.ensures in
     let fit = early_stages _ _ _ _ c.args.state _ _ early in
-    let bound = c.bind-textures.ensures ∙ bound_cut c.args.stages c.args.count c.args.units (in_use c.args.stages _ _ fit (search rules)) in
-    let late = c.in_err-check_late.ensures ∙ late_cut (length c.args.store.now) c.args.count c.bind-textures.result c.args.t.a c.args.t.b c.args.t.c (in_use c.args.stages _ _ fit (search rules)) in
+    let late = c.in_err-check_late.ensures ∙ late_is c.args.stages c.args.count c.args.units c.bind-bound.result fit (search rules) (search rules) c.bind-bound.ensures _ _ _ _ in
     let p = err_from_is_err_and c.from_residual-in_err-check_late.result c.from_residual-in_err-check_late.ensures.1 in
-    rw (p.1, p.2) (refused_late _ c.args.width c.args.height c.args.state c.args.stages c.args.count c.args.t.a c.args.t.b c.args.t.c c.args.units _ _ c.in_err-check_late.field-0.0 early (rw bound at late))
+    rw (p.1, p.2) (refused_late _ c.args.width c.args.height c.args.state c.args.stages c.args.count c.args.t.a c.args.t.b c.args.t.c c.args.units _ _ c.in_err-check_late.field-0.0 early late)

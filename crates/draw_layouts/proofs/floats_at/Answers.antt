@@ -1,9 +1,8 @@
-use Rattle.std.proofs.Common.{◌+◌, ◌*◌}
-use Rattle.std.proofs.lemmas.List.{length-replicate}
-use Rattle.lists.proofs.Tables.{tab_more}
+use Rattle.std.proofs.Common.{rules, ◌+◌, ◌*◌}
+use Rattle.lists.proofs.Made.{tab_from_fn}
 use Rattle.draw_layouts.specs.Numbers.{float_at}
 use Rattle.draw_layouts.proofs.floats_at.Goals as goal
 
-pub loop-i-preserved : goal.loop-i-preserved
+pub returns : goal.returns
 unfolding float_at
-loop-i-preserved g c = rw (c.read_at.ensures, c.loop-i.invariant) (tab_more (λ k. float_at c.args.b.now (c.args.at + k * 4)) c.loop-i.i _ (simp length-replicate c.loop-i-test.true))
+returns g c = tab_from_fn _ _ (λ i. float_at c.args.b.now (c.args.at + i * 4)) (λ i q y k. search rules) g.row.N _ c.from_fn.ensures.items

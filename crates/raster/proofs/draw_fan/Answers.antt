@@ -1,28 +1,37 @@
-use mathlib.Core.Path.{refl, sym, ap, ◌∙◌}
-use lib.ListN.{length}
+use borrow.Author.Rules.{rules}
+use mathlib.Core.Path.{◌≡◌, sym, ap, ◌∙◌}
+use Prim.Native.Nat.{◌≤◌}
+use lib.ListN.{length, length-drop}
 use native.Mathlib.Omega.{arith}
-use Rattle.clip.proofs.Fans.{fan_step}
-use Rattle.raster.proofs.Fills.{same_still, filled_more, fill_end}
-use Rattle.raster.proofs.Fans.{fan_small, corners_few, fan_drawn}
+use Rattle.std.specs.Slice.Iter.{windows_rest}
+use Rattle.std.specs.Slice.ArrayWindows.{array_windows_parts}
+use Rattle.raster.proofs.Fills.{same_still, same_on}
+use Rattle.raster.proofs.Fans.{fan_none, fan_from, fan_more, fan_end, corners_few}
 use Rattle.raster.proofs.draw_fan.Goals as goal
 
-pub returns-then-corners-lt3-clause-drawn : goal.returns-then-corners-lt3-clause-drawn
-returns-then-corners-lt3-clause-drawn g c = sym (fan_small _ _ _ (omega (arith, ap length (c.corners-corners.ensures.same ∙ c.clip_triangle-polygon.ensures))))
+pub returns-in_default-clause-drawn : goal.returns-in_default-clause-drawn
+returns-in_default-clause-drawn g c = sym (fan_none _ _ _ (omega (arith, ap length (c.corners.ensures.same ∙ c.clip_triangle-polygon.ensures), c.in_default.ensures.cases)))
 
-pub loop-i-init : goal.loop-i-init
-loop-i-init g c = (record { rest = refl; same = same_still }, omega (arith, c.requires), refl)
+pub loop-pair-init : goal.loop-pair-init
+loop-pair-init g c =
+    let same = c.corners.ensures.same ∙ c.clip_triangle-polygon.ensures in
+    let few = corners_few c.args.t.a c.args.t.b c.args.t.c same in
+    let left : windows_rest (array_windows_parts c.into_iter-pair-iterator.result) ≡ c.in-Some.rest.now = search rules in
+    (rw left (fan_from _ _ _ _ _ (sym same ∙ c.in-Some.ensures.cases.0)), same_still, search rules, omega (arith, ap length left, c.in-Some.ensures.cases.1, few, c.requires))
 
-pub raster_clipped-requires : goal.raster_clipped-requires
-raster_clipped-requires g c = let few = corners_few c.args.t.a c.args.t.b c.args.t.c (c.corners-corners.ensures.same ∙ c.clip_triangle-polygon.ensures) in omega (arith, few, c.loop-i.invariant, c.loop-i-test.true)
+pub loop-pair-preserved : goal.loop-pair-preserved
+loop-pair-preserved g c =
+    let s = c.loop-pair.invariant.1 in
+    let steps = c.in-Some-pair.ensures.steps in
+    let size = c.loop-pair.invariant.2 in
+    let long : 2 ≤ length (windows_rest (array_windows_parts c.loop-pair.pair-iterator)) = omega (arith, size, steps.1.0) in
+    let now = rw size at steps.1.1 in
+    let less = length-drop 1 (windows_rest (array_windows_parts c.loop-pair.pair-iterator)) in (
+      rw (steps.1.2, rw (s.width, s.within) at c.raster_clipped.ensures.drawn, now) (sym (fan_more _ _ _ _ long) ∙ c.loop-pair.invariant.0),
+      same_on s c.raster_clipped.ensures.same,
+      steps.0 ∙ size,
+      omega (arith, ap length steps.1.2, less, long, c.loop-pair.invariant.3, c.raster_clipped.ensures.count),
+    )
 
-pub overflow_step-i : goal.overflow_step-i
-overflow_step-i g c = let few = corners_few c.args.t.a c.args.t.b c.args.t.c (c.corners-corners.ensures.same ∙ c.clip_triangle-polygon.ensures) in omega (arith, few, c.loop-i-test.true, c.loop-i.invariant.2)
-
-pub loop-i-preserved : goal.loop-i-preserved
-unfolding fan_step
-loop-i-preserved g c =
-    let s = c.loop-i.invariant.0.same in
-    (filled_more c.loop-i.invariant.0 (omega (arith, c.loop-i-test.true, c.loop-i.invariant)) (rw (s.width, s.within) at c.raster_clipped.ensures.drawn) c.raster_clipped.ensures.same, omega (arith, c.raster_clipped.ensures.count), c.loop-i.invariant.2)
-
-pub returns : goal.returns
-returns g c = record { drawn = fill_end c.loop-i.invariant.0 (omega (arith, c.loop-i-test.false, c.loop-i.invariant)) ∙ fan_drawn _ _ (c.corners-corners.ensures.same ∙ c.clip_triangle-polygon.ensures); same = c.loop-i.invariant.0.same }
+pub returns-clause-drawn : goal.returns-clause-drawn
+returns-clause-drawn g c = sym (fan_end _ _ _ _ (omega (arith, c.in-None.ensures.steps.1.0, c.loop-pair.invariant.2))) ∙ c.loop-pair.invariant.0

@@ -1,5 +1,4 @@
 use mathlib.Core.Path.{refl}
-use Prim.Native.Nat.{◌-◌}
 use native.Mathlib.Omega.{arith}
 use Rattle.render_target.proofs.Rowwise.{row_within}
 use Rattle.raster.specs.Fill.{fill_of}

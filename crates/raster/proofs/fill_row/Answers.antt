@@ -1,5 +1,4 @@
-use mathlib.Core.Path.{refl, sym, ◌∙◌}
-use Prim.Native.Nat.{◌-◌}
+use mathlib.Core.Path.{refl}
 use native.Mathlib.Omega.{arith}
 use Rattle.raster.specs.Fill.{row_of}
 use Rattle.raster.proofs.Fills.{same_still, filled_more, fill_end, pixel_count}

@@ -1,34 +1,24 @@
-use mathlib.Core.Path.{refl, sym, ◌∙◌}
-use Rattle.answers.specs.declared.Refusal.TheVariants.{Target, Scissor}
-use mathlib.Core.Path.{◌≡◌}
+use mathlib.Core.Path.{refl}
 use lib.Dec.{lit<}
-use lib.ListN.{length}
-use Rattle.answers.specs.Numbers.{refusal_number}
+use Rattle.std.proofs.lemmas.Result.{err_from_is_err_and}
 use Rattle.answers.proofs.Answered.{refused_test, done_test}
-use Rattle.lists.proofs.Choice.{yes, no, stay, leave, was_so}
+use Rattle.lists.proofs.Choice.{yes, no}
 use Rattle.render_target.specs.Clear.{clear_color_check}
 use Rattle.render_target.specs.Clear.{clear_color_of}
-use Rattle.scissor.proofs.Outcome.{target_is}
-use borrow.Author.Tests.{not-false}
+use Rattle.scissor.proofs.Outcome.{target_is, check_passed}
+use Rattle.scissor.specs.Check.{check_of}
 use Rattle.render_target.proofs.clear_color.Goals as goal
 
-pub returns-then-not-target_fits : goal.returns-then-not-target_fits
-unfolding clear_color_check clear_color_of
-returns-then-not-target_fits c =
-    let e : refusal_number Target ≡ clear_color_check c.args.width c.args.height (length c.args.colors.now) c.args.depths_len c.args.scissor = leave _ c.target_fits.ensures c.if-not-target_fits.true-raw refl in
-    record { answer = e; colors_after = no _ (refused_test Target _ e) refl }
-
-pub returns-then-not-scissor_fits : goal.returns-then-not-scissor_fits
-unfolding clear_color_check clear_color_of
-returns-then-not-scissor_fits c =
-    let e : refusal_number Scissor ≡ clear_color_check c.args.width c.args.height (length c.args.colors.now) c.args.depths_len c.args.scissor = stay _ c.target_fits.ensures c.if-not-target_fits.false-raw (leave _ c.scissor_fits.ensures c.if-not-scissor_fits.true-raw refl) in
-    record { answer = e; colors_after = no _ (refused_test Scissor _ e) refl }
+pub returns-in_err-check : goal.returns-in_err-check
+unfolding clear_color_check clear_color_of check_of
+returns-in_err-check c =
+    let p = err_from_is_err_and c.from_residual.result c.from_residual.ensures.1 in
+    let why = c.in_err-check.field-0.0 in
+    rw (p.1, p.2) (record { answer = c.in_err-check.ensures; colors_after = no _ (refused_test why _ c.in_err-check.ensures) refl })
 
 pub clear-requires : goal.clear-requires
-clear-requires c = (lit< tt, (lit< tt, (target_is _ _ _ _ (sym c.target_fits.ensures ∙ not-false _ c.if-not-target_fits.false-raw)).2))
+clear-requires c = (lit< tt, (lit< tt, (target_is _ _ _ _ (check_passed _ _ _ _ _ c.in_ok-check.ensures).0).2))
 
 pub returns : goal.returns
-unfolding clear_color_check clear_color_of
-returns c =
-    let e : 0 ≡ clear_color_check c.args.width c.args.height (length c.args.colors.now) c.args.depths_len c.args.scissor = stay _ c.target_fits.ensures c.if-not-target_fits.false-raw (stay _ c.scissor_fits.ensures c.if-not-scissor_fits.false-raw refl) in
-    record { answer = e; colors_after = yes _ (done_test _ e) (c.clear.ensures 0) }
+unfolding clear_color_check clear_color_of check_of
+returns c = record { answer = c.in_ok-check.ensures; colors_after = yes _ (done_test _ c.in_ok-check.ensures) (c.clear.ensures 0) }

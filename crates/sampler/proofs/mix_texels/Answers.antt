@@ -1,16 +1,11 @@
-use Prim.Native.Nat.{◌^◌}
-use mathlib.Core.Path.{sym, subst}
-use lib.Dec.{T}
-use lib.Ieee.{in_float}
-use native.Mathlib.Omega.{arith}
-use borrow.Author.Tests.{le-leb}
-use Rattle.sampler.specs.Texels.{mix_texel, part_of}
+use Rattle.std.proofs.Common.{rules, ◌∙◌, refl, get_or}
+use Rattle.lists.specs.Lists.{tab}
+use Rattle.lists.proofs.Made.{tab_from_fn}
+use Rattle.sampler.specs.Texels.{texel_at, mix_byte, mix_texel}
 use Rattle.sampler.proofs.mix_texels.Goals as goal
 
-pub int_to_float-weight : goal.int_to_float-weight
-unfolding in_float
-int_to_float-weight c = subst T (sym (le-leb c.args.part (2 ^ 24) (omega arith))) tt
-
 pub returns : goal.returns
-unfolding mix_texel part_of
-returns c = rw (c.mix_byte.ensures, c.mix_byte-2.ensures, c.mix_byte-3.ensures, c.mix_byte-4.ensures)
+unfolding tab texel_at mix_texel
+returns c =
+    c.from.ensures
+    ∙ rw (tab_from_fn _ _ (λ k. mix_byte c.args.weight (get_or c.from-a.result k 0) (get_or c.from-b.result k 0)) (λ i q y k. search rules) 4 _ c.from_fn.ensures.items, c.from-a.ensures, c.from-b.ensures) refl

@@ -1,3 +1,4 @@
+use mathlib.Core.Logic.{inl, inr}
 use mathlib.Core.Path.{◌∙◌}
 use Rattle.levels.specs.Levels.{level_of, levels_of}
 use Rattle.mipmaps.proofs.Choices.{chosen_within}
@@ -8,10 +9,9 @@ use Rattle.std.proofs.Common.{rules}
 use Rattle.sampler.proofs.sample_with_gradients.Goals as goal
 
 pub returns-then-first-eq0 : goal.returns-then-first-eq0
-returns-then-first-eq0 c = c.white_texel.ensures ∙ incomplete _ c.args.texture.now _ (no_width c.args.texture.now c.if-first-eq0.true)
-
-pub returns-then-first-eq0-2 : goal.returns-then-first-eq0-2
-returns-then-first-eq0-2 c = c.white_texel-then-first-eq0-2.ensures ∙ incomplete _ c.args.texture.now _ (no_height c.args.texture.now c.if-first-eq0-2.true)
+returns-then-first-eq0 c =
+    let x = c.args.texture.now in
+    c.white_texel.ensures ∙ incomplete _ x _ (elim c.then-first-eq0.either [ inl e ↦ no_width x e | inr e ↦ no_height x e.1 ])
 
 pub chosen_levels-chosen-requires : goal.chosen_levels-chosen-requires
 chosen_levels-chosen-requires c =

@@ -1,13 +1,14 @@
 use Rattle.std.specs.Float.{nan}
-use Rattle.std.proofs.Common.{arith, length-set}
-use Rattle.std.proofs.lemmas.List.Edits.{fill_by_more}
+use Rattle.std.proofs.Common.{rules}
 use Rattle.std.proofs.lemmas.List.FromFn.{fill_by_all}
+use Rattle.lists.proofs.Made.{tab_from_fn}
+use Rattle.lists.proofs.Tables.{length_tab, get_or_tab}
 use Rattle.vertices.specs.Vertex.{mixed, mix_at}
 use Rattle.vertices.proofs.mix_each.Goals as goal
 
-pub loop-i-preserved : goal.loop-i-preserved
-loop-i-preserved g c = (simp length-set c.loop-i.invariant.0, rw c.mix.ensures (fill_by_more (mix_at c.args.t c.args.a.now c.args.b.now) _ _ nan (omega arith) c.loop-i.invariant.1))
-
 pub returns : goal.returns
 unfolding mixed
-returns g c = fill_by_all (mix_at c.args.t c.args.a.now c.args.b.now) _ _ nan (c.loop-i.invariant.0) (λ k h. c.loop-i.invariant.1 k (omega arith))
+returns g c =
+    let n = g.row.N in
+    let at = mix_at c.args.t c.args.a.now c.args.b.now in
+    rw (tab_from_fn _ _ at (λ i q y k. search rules) n _ c.from_fn.ensures.items) (fill_by_all at _ n nan (length_tab at n) (λ k h. get_or_tab at n k nan h))

@@ -1,4 +1,5 @@
 use mathlib.Core.Path.{refl, ◌∙◌}
+use borrow.Author.Rules.{rules}
 use lib.ListN.{length}
 use Rattle.std.specs.Prelude.{Some}
 use Rattle.answers.specs.declared.Refusal.TheVariants.{Bytes, Output}
@@ -38,7 +39,7 @@ returns-clause-number c =
 pub returns-clause-left : goal.returns-clause-left
 returns-clause-left c =
     let a = c.args in
-    c.decode_image.ensures
+    search rules
     ∙ known_drawn (Some a.self) a.sides.w a.sides.h a.s.now a.out.now
     (known_0 (Some a.self) a.sides.w a.sides.h (length a.s.now) (length a.out.now) refl (rw (← c.size.ensures) c.if-s-size.false)
     (rw (← c.texels.ensures.value) c.if-out-texels.false))

@@ -10,18 +10,18 @@ pub decode_blocks-requires : goal.decode_blocks-requires
 unfolding size_of
 decode_blocks-requires c =
     let a = c.args in
-    (subst (λ (g : Compressed). size_of (Some g) a.sides.w a.sides.h ≤ length a.s.now) c.in-Blocks.is c.requires.0, c.requires.1)
+    subst (λ (g : Compressed). size_of (Some g) a.image.now.sides.w a.image.now.sides.h ≤ length a.s.now) c.in-Blocks.is c.requires
 
 pub decode_paletted-requires : goal.decode_paletted-requires
 unfolding size_of
 decode_paletted-requires c =
     let a = c.args in
-    (subst (λ (g : Compressed). size_of (Some g) a.sides.w a.sides.h ≤ length a.s.now) c.in-Palette.is c.requires.0, c.requires.1)
+    subst (λ (g : Compressed). size_of (Some g) a.image.now.sides.w a.image.now.sides.h ≤ length a.s.now) c.in-Palette.is c.requires
 
-pub returns-in-Blocks : goal.returns-in-Blocks
+pub returns-in-Blocks-clause-drawn : goal.returns-in-Blocks-clause-drawn
 unfolding compressed_image
-returns-in-Blocks c = rw c.in-Blocks.is c.decode_blocks.ensures
+returns-in-Blocks-clause-drawn c = rw c.in-Blocks.is c.decode_blocks.ensures.drawn
 
-pub returns-in-Palette : goal.returns-in-Palette
+pub returns-in-Palette-clause-drawn : goal.returns-in-Palette-clause-drawn
 unfolding compressed_image
-returns-in-Palette c = rw c.in-Palette.is c.decode_paletted.ensures
+returns-in-Palette-clause-drawn c = rw c.in-Palette.is c.decode_paletted.ensures.drawn

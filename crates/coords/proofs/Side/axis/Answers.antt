@@ -1,3 +1,4 @@
+use mathlib.Core.Path.{refl}
 use mir.Syntax.{w64}
 use mir.Val.{SFits}
 use Rattle.std.proofs.Common.{rules}
@@ -7,4 +8,4 @@ use Rattle.coords.proofs.Side.axis.Goals as goal
 pub returns : goal.returns
 returns c =
     let f : SFits w64 c.floored-floor.result.whole = search rules in
-    axis_is c.args.self.wrap c.args.v c.length.result c.args.self.size _ _ _ _ c.length.ensures c.floored-floor.ensures f c.texel-first.ensures c.next.ensures
+    axis_is c.args.self.wrap c.args.v _ c.args.self.size _ _ _ _ refl c.floored-floor.ensures f c.texel-first.ensures c.next.ensures

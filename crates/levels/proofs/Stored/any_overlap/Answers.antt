@@ -1,22 +1,22 @@
-use Rattle.std.proofs.Common.{refl, sym, ◌∙◌, arith, ◌+◌}
-use Rattle.std.proofs.lemmas.List.{take_rest, get_or-drop}
-use Rattle.lists.proofs.Search.{any_on, any_hit, any_end}
-use Rattle.levels.specs.Levels.{absent, overlaps}
+use Rattle.std.proofs.Common.{rules, tests, ap, ◌∙◌, ◌≡◌, true, ◌+◌, drop, get_or}
+use Rattle.std.proofs.lemmas.Iterator.{YieldsList-from_slice}
+use Rattle.std.proofs.lemmas.Iterator.Adapters.{serves_from_places}
+use Rattle.std.proofs.lemmas.Iterator.Search.{any_from_yields_List}
+use Rattle.std.proofs.lemmas.List.{take_rest, get_or-drop, get_or_default}
+use Rattle.levels.specs.Levels.{absent, fits, overlaps}
 use Rattle.levels.proofs.Valid.{fits_at}
 use Rattle.levels.proofs.Stored.any_overlap.Goals as goal
 
-pub loop-other-init : goal.loop-other-init
-loop-other-init c = rw (take_rest c.args.self.levels c.args.from) refl
-
-pub overlap-requires : goal.overlap-requires
-overlap-requires c =
-    (c.requires.1, rw (take_rest c.args.self.levels c.args.from, get_or-drop c.args.from c.args.self.levels c.loop-other.other-index absent) (fits_at _ _ c.args.self.fit (c.args.from + c.loop-other.other-index)))
-
-pub returns-then-overlap : goal.returns-then-overlap
-returns-then-overlap c = sym (any_hit (overlaps c.args.m) _ absent c.loop-other.other-index c.loop-other-test.true (sym c.overlap.ensures ∙ c.if-overlap.true)) ∙ c.loop-other.invariant
-
-pub loop-other-preserved : goal.loop-other-preserved
-loop-other-preserved c = any_on (overlaps c.args.m) _ absent c.loop-other.other-index c.loop-other-test.true (sym c.overlap.ensures ∙ c.if-overlap.false) ∙ c.loop-other.invariant
+pub any-requires-clause-callable : goal.any-requires-clause-callable
+any-requires-clause-callable c =
+    let s = c.args.self in
+    let rest = drop c.args.from s.levels in
+    serves_from_places (YieldsList-from_slice rest (c.iter.ensures.rest ∙ take_rest s.levels c.args.from)) (λ x q e. search (rules, tests))
+    (λ x k h e _ _ _ _ _ _ _ _.
+    let f : fits s.len (get_or rest k absent) ≡ true = rw (get_or-drop c.args.from s.levels k absent) (fits_at s.len s.levels s.fit (c.args.from + k)) in
+    (c.requires.1, ap (fits s.len) (e ∙ get_or_default rest k x.now absent h) ∙ f))
 
 pub returns : goal.returns
-returns c = sym (any_end (overlaps c.args.m) _ absent c.loop-other.other-index (omega arith)) ∙ c.loop-other.invariant
+returns c =
+    let rest = drop c.args.from c.args.self.levels in
+    any_from_yields_List (overlaps c.args.m) _ _ c.any.result c.any.ensures.ran (YieldsList-from_slice rest (c.iter.ensures.rest ∙ take_rest c.args.self.levels c.args.from)) (λ x b q e. search (rules, tests))

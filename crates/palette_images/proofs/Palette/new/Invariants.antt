@@ -7,4 +7,4 @@ use Rattle.palette_images.proofs.Palette.new.Given as goal
 
 abbrev pub invariant-loop-i : goal.invariant-loop-i
 invariant-loop-i l =
-    l.entries ≡ tab l.i (nth_texel l.t l.s) ++ drop l.i l.initial.entries
+    l.entry-items ≡ tab l.i (nth_texel l.t l.s) ++ drop l.i l.initial.entry-items

@@ -1,10 +1,12 @@
 use mathlib.Core.Path.{◌≡◌, ◌∙◌}
 use mathlib.Core.List.{List}
 use Prim.Native.Nat.{ℕ, ◌+◌, ◌*◌}
+use native.Mathlib.Nat.{mul_assoc}
 use native.Mathlib.Omega.{arith}
 use lib.ListN.{length}
 use Rattle.lists.specs.Lists.{flat}
 use Rattle.lists.proofs.Rows.{length_flat, flat_none, flat_more, flat_all}
+use Rattle.texels.proofs.Lents.{same_still, same_on}
 use Rattle.texels.specs.Image.{image}
 use Rattle.palette_images.specs.Paletted.{index_bits, entry_at}
 use Rattle.palette_images.proofs.Indices.{entry_four}
@@ -24,25 +26,37 @@ unfolding rows
 loop-y-init c =
     let a = c.args in
     let p = a.self.now in
-    flat_none (a.sides.w * 4) (rows (index_bits p.bits) p.entries a.s.now a.start c.row_bytes-row.result a.sides.w)
-    (long (index_bits p.bits) p.entries a.s.now a.start c.row_bytes-row.result a.sides.w) a.out.now
+    let i = a.image.now in (
+      flat_none (i.sides.w * 4) (rows (index_bits p.bits) p.entries a.s.now a.start c.row_bytes-row.result i.sides.w)
+          (long (index_bits p.bits) p.entries a.s.now a.start c.row_bytes-row.result i.sides.w) i.out.now,
+      same_still,
+    )
 
 pub loop-y-preserved : goal.loop-y-preserved
 unfolding rows
 loop-y-preserved c =
     let a = c.args in
     let p = a.self.now in
-    rw (c.put_row.ensures, c.loop-y.invariant)
-    (flat_more (a.sides.w * 4) (rows (index_bits p.bits) p.entries a.s.now a.start c.row_bytes-row.result a.sides.w)
-    (long (index_bits p.bits) p.entries a.s.now a.start c.row_bytes-row.result a.sides.w) c.loop-y.y a.out.now)
+    let i = a.image.now in
+    let s = c.loop-y.invariant.1 in (
+      rw (rw s.sides at c.put_row.ensures.drawn, c.loop-y.invariant.0)
+          (flat_more (i.sides.w * 4) (rows (index_bits p.bits) p.entries a.s.now a.start c.row_bytes-row.result i.sides.w)
+          (long (index_bits p.bits) p.entries a.s.now a.start c.row_bytes-row.result i.sides.w) c.loop-y.y i.out.now),
+      same_on s c.put_row.ensures.same,
+    )
 
 pub returns : goal.returns
 unfolding rows image
 returns c =
     let a = c.args in
     let p = a.self.now in
-    let e : c.loop-y.y ≡ a.sides.h = omega arith in
-    c.loop-y.invariant ∙ rw e
-    (flat_all (a.sides.w * 4) (rows (index_bits p.bits) p.entries a.s.now a.start c.row_bytes-row.result a.sides.w)
-    (long (index_bits p.bits) p.entries a.s.now a.start c.row_bytes-row.result a.sides.w) a.sides.h a.out.now (omega arith)
-    ∙ rw (c.row_bytes-row.ensures, c.bits.ensures))
+    let i = a.image.now in
+    let e : c.loop-y.y ≡ i.sides.h = omega arith in
+    let whole : length i.out.now ≡ i.sides.h * (i.sides.w * 4) = i.fit ∙ mul_assoc i.sides.h i.sides.w 4 in
+    record {
+      drawn = c.loop-y.invariant.0 ∙ rw e
+          (flat_all (i.sides.w * 4) (rows (index_bits p.bits) p.entries a.s.now a.start c.row_bytes-row.result i.sides.w)
+          (long (index_bits p.bits) p.entries a.s.now a.start c.row_bytes-row.result i.sides.w) i.sides.h i.out.now (omega arith)
+          ∙ rw (c.row_bytes-row.ensures, c.bits.ensures));
+      same = c.loop-y.invariant.1;
+    }

@@ -3,4 +3,4 @@ use Rattle.probes.proofs.Next.{next_pair}
 use Rattle.probes.proofs.probe_floats.probe_next_i32.Goals as goal
 
 pub returns : goal.returns
-returns c = c.next.ensures ∙ next_pair 31 c.args.below c.args.m
+returns c = c.next-s.ensures ∙ next_pair 31 c.args.below c.args.m

@@ -1,6 +1,5 @@
 use mathlib.Core.Path.{refl, ◌∙◌}
 use native.Mathlib.Omega.{arith}
-use Rattle.probes.specs.Sampling.{coordinates_from}
 use Rattle.probes.proofs.Mapped.{mapped_none, mapped_more, mapped_all}
 use Rattle.probes.proofs.probe_sampler.fill.Goals as goal
 
@@ -12,7 +11,7 @@ coordinates_from-p-requires c = omega (arith, c.requires.coordinates, c.loop-i.i
 
 pub loop-i-preserved : goal.loop-i-preserved
 loop-i-preserved c =
-    mapped_more c.loop-i.invariant (omega (arith, c.loop-i.invariant.kept, c.loop-i-test.true)) (c.packed_texel.ensures ∙ rw (c.sample_with_gradients.ensures, c.coordinates_from-p.ensures))
+    mapped_more c.loop-i.invariant (omega (arith, c.loop-i.invariant.kept, c.loop-i-test.true)) (c.from.ensures ∙ rw (c.sample_with_gradients.ensures, c.coordinates_from-p.ensures))
 
 pub returns : goal.returns
 returns c = mapped_all c.loop-i.invariant (omega (arith, c.loop-i.invariant.kept, c.loop-i-test.false))

@@ -1,4 +1,3 @@
-use Prim.Native.Nat.{◌-◌}
 use lib.ListN.{length}
 use Rattle.probes.proofs.Each.{steps_at}
 use Rattle.probes.proofs.Mapped.{Mapped}

@@ -1,18 +1,15 @@
-use Rattle.std.proofs.Common.{refl, sym, ap, ◌∙◌}
-use Rattle.sampler.specs.Samples.{Outcome, outcome_of}
+use Rattle.std.proofs.Common.{rules, tests, refl, sym, ap, ◌∙◌}
+use Rattle.sampler.specs.Samples.{Outcome}
 use Rattle.tilefringe.specs.SampleCalls.{ended, layout_sample}
+use Rattle.tilefringe.proofs.Given.{numbered}
 use Rattle.tilefringe.proofs.sample_calls.tf_sample.Goals as goal
 
 pub returns-in_default : goal.returns-in_default
 unfolding layout_sample
 returns-in_default c = rw (sym c.in_default.ensures) refl
 
-pub returns-in-Ok : goal.returns-in-Ok
+pub returns : goal.returns
 unfolding layout_sample
-returns-in-Ok c =
-    rw (sym c.in-Some.ensures, c.packed_texel.ensures) (ap (λ (o : Outcome). ended c.args.texel.now o) (ap outcome_of (sym c.in-Ok.is) ∙ c.sample.ensures))
-
-pub returns-in-Err : goal.returns-in-Err
-unfolding layout_sample
-returns-in-Err c =
-    rw (sym c.in-Some.ensures, c.number.ensures) (ap (λ (o : Outcome). ended c.args.texel.now o) (ap outcome_of (sym c.in-Err.is) ∙ c.sample.ensures))
+returns c =
+    rw (sym c.in-Some.ensures, c.give.ensures.number, c.give.ensures.out_after)
+    (numbered c.sample.result c.map.result _ c.args.texel.now c.map.ensures.cases (λ x n e. search (rules, tests)) ∙ ap (λ (o : Outcome). ended c.args.texel.now o) c.sample.ensures)

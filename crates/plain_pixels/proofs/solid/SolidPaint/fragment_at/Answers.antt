@@ -11,4 +11,4 @@ returns-in_err-z c = rw c.from_residual.ensures (unreached [] (drawing c.args.se
 pub returns : goal.returns
 returns c =
     let e = sym c.reached.ensures ∙ c.in_ok-z.was in
-    rw (c.color_at.ensures, (reached_at [] (drawing c.args.self.now.state [] 0 []) c.args.t c.args.w c.args.stored e).0) (solid_fragment c.args.self.now.state c.args.t c.args.w c.args.stored c.args.self.now.solid e)
+    rw (c.color_between.ensures, (reached_at [] (drawing c.args.self.now.state [] 0 []) c.args.t c.args.w c.args.stored e).0) (solid_fragment c.args.self.now.state c.args.t c.args.w c.args.stored c.args.self.now.solid e)
