@@ -5,9 +5,10 @@
 ## make times    the times of the last make test, part by part
 ## make lib      the archives of the exported crates, target/staticlib/lib*.a
 ## make panels   forty guests on one frame, their calls interleaved by SEED (1), each held to itself alone; target/panels.png
-## make example  one guest in C, built as C99 and as C++ and run (examples/panel.c)
+## make example  one guest in C and the floating-point environments, built as C99 and as C++ and run (examples/)
 ## make pictures docs/pictures written anew
 ## make rust-check         the tests of rust/ and the panels' own checks
+## make signatures         names, order and types of the exported functions' parameters, in Rattle, C and Rust
 ## make differential-check the comparison with the Rust (differential/run --help)
 ## make boundary-valgrind  abuse at the C boundary under valgrind (CASES=20000)
 ## make bench-check        the benchmark held to its bars (bench/run --help)
@@ -16,7 +17,7 @@
 ## With TILEFRINGE_LIB=FOLDER panels, example, pictures and rust-check take FOLDER/libtilefringe.a and prove nothing; so do the comparison
 ## and the benchmark, which want libprobes.a there too.
 
-.PHONY: help check test times lib differential-check boundary-valgrind bench-check record example panels pictures rust-check rust-build
+.PHONY: help check test times lib signatures differential-check boundary-valgrind bench-check record example panels pictures rust-check rust-build
 .NOTPARALLEL:
 
 help:
@@ -48,8 +49,11 @@ $(TILEFRINGE_LIB)/lib%.a:
 	@echo "there is no lib$*.a in the folder that TILEFRINGE_LIB names, $(TILEFRINGE_LIB)" >&2; exit 1
 endif
 
+signatures:
+	@tools/signatures
+
 # The counters are in log/check.
-check:
+check: signatures
 	@tools/proofs
 	@$(MAKE) --no-print-directory lib
 	@s=0; TILEFRINGE_LIB= differential/run --cases 2000 > log/check || s=$$?; grep -v '^  ' log/check; [ $$s = 0 ] || [ $$s = 3 ]
@@ -73,16 +77,25 @@ bench-check:
 record: lib
 	@differential/run --record
 
-# The header is for C99 and for C++: the guest is built as both.
+# The header is for C99 and for C++: each example is built as both. The guest linked with -ffast-math must notice FTZ and DAZ, 6, and end.
 WARNINGS = -Wall -Wextra -Werror -pedantic
+IN_C = gcc $(WARNINGS) -std=c99 -Iinclude
+IN_CPP = g++ $(WARNINGS) -std=c++11 -Iinclude -x c++
 
 example: $(ARCHIVE)
 	@mkdir -p target/example
-	@gcc $(WARNINGS) -std=c99 -Iinclude examples/panel.c $(ARCHIVE) -o target/example/panel
-	@g++ $(WARNINGS) -std=c++11 -Iinclude -x c++ examples/panel.c -x none $(ARCHIVE) -o target/example/panel_cpp
+	@for name in panel environment; do \
+		$(IN_C) examples/$$name.c $(ARCHIVE) -o target/example/$$name && \
+		$(IN_CPP) examples/$$name.c -x none $(ARCHIVE) -o target/example/$${name}_cpp || exit 1; \
+	done
 	@target/example/panel > target/example/panel.out; s=$$?; cat target/example/panel.out; [ $$s = 0 ]
 	@target/example/panel_cpp > target/example/panel_cpp.out
 	@for built in panel panel_cpp; do diff examples/panel.out target/example/$$built.out || exit 1; done; echo "example: as examples/panel.out, built as C and as C++"
+	@target/example/environment
+	@target/example/environment_cpp > target/example/environment_cpp.out || { cat target/example/environment_cpp.out; exit 1; }
+	@$(IN_C) -ffast-math examples/panel.c $(ARCHIVE) -o target/example/panel_fast
+	@! target/example/panel_fast > target/example/panel_fast.out
+	@echo "floating-point environment: 6" | diff - target/example/panel_fast.out && echo "example: linked with -ffast-math, it ends"
 
 CARGO = CARGO_HOME="$(CURDIR)/target/cargo-home" CARGO_TARGET_DIR="$(CURDIR)/target/cargo" cargo
 PANELS = target/cargo/release/panels

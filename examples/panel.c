@@ -1,4 +1,4 @@
-/* One guest: it clears its window, defines a texture, draws two triangles and prints its bill.
+/* One guest: it asks for its floating-point environment, clears its window, defines a texture, draws two triangles and prints its bill.
  * make example builds and runs it, and compares what it prints with panel.out. */
 #include <stdio.h>
 #include <string.h>
@@ -52,6 +52,13 @@ int main(void)
     /* The window is columns 8 to 55 of rows 8 to 39; boxes count from the bottom left. */
     const int32_t x = 8, y = 8, width = 48, height = 32;
     int refused = 0;
+
+    /* Once in each thread that calls: in another floating-point environment the bill would be another. */
+    const uint32_t environment = tf_float_environment();
+    if (environment != 0) {
+        printf("floating-point environment: %u\n", (unsigned)environment);
+        return 1;
+    }
 
     refused += check("clear colour", tf_clear_color(colors, sizeof colors, WIDTH * HEIGHT, WIDTH, HEIGHT, 20, 40, 60, 255, 1, x, y,
                                                     width, height));

@@ -22,6 +22,9 @@
  *
  * A slice is a pointer and a length; with length 0 the pointer may be any, null too. What is not const may be written, and overlaps nothing
  * else that the call is lent; const slices may overlap each other. Pointers to one number are never null.
+ *
+ * All is proved for the floating-point environment that a thread has by default; in another one a draw writes and bills other pixels.
+ * Each thread that calls asks tf_float_environment once.
  */
 #ifndef TILEFRINGE_H
 #define TILEFRINGE_H
@@ -31,6 +34,25 @@
 
 #ifdef __cplusplus
 extern "C" {
+#endif
+
+/* The bits of tf_float_environment's answer. */
+#define TF_FLOAT_ROUNDING 1u           /* rounding upward, downward or towards zero */
+#define TF_FLOAT_FLUSH_TO_ZERO 2u      /* FTZ: a result that is subnormal becomes 0 */
+#define TF_FLOAT_DENORMALS_ARE_ZERO 4u /* DAZ: an operand that is subnormal is taken as 0 */
+
+/* 0 where the calling thread has the floating-point environment that the proofs suppose, rounding to nearest with subnormal numbers kept;
+ * else the bits above. A thread has its own, from the thread that made it. Linking a program with -ffast-math sets FTZ and DAZ, and so can a
+ * library that it loads. An exception that is not masked changes no result, but ends a call by a signal. Reads MXCSR; not declared but for
+ * x86-64, for which the archive is. */
+#if defined(__x86_64__)
+static inline uint32_t tf_float_environment(void)
+{
+    uint32_t mxcsr;
+    __asm__ volatile("stmxcsr %0" : "=m"(mxcsr));
+    return ((mxcsr & 0x6000u) != 0 ? TF_FLOAT_ROUNDING : 0u) | ((mxcsr & 0x8000u) != 0 ? TF_FLOAT_FLUSH_TO_ZERO : 0u) |
+           ((mxcsr & 0x0040u) != 0 ? TF_FLOAT_DENORMALS_ARE_ZERO : 0u);
+}
 #endif
 
 /* The bytes of a texel of a format and type; 0 for an unknown pair. */
@@ -54,7 +76,9 @@ uint32_t tf_compressed_image_size(uint32_t format, uint32_t width, uint32_t heig
 uint32_t tf_sample(const uint8_t *record, size_t record_len, const uint8_t *store, size_t store_len, float s, float t,
                    float dsdx, float dtdx, float dsdy, float dtdy, uint32_t *texel);
 
-/* Sets the colours of the scissor box: the whole target where boxed is 0, else the box, counted from the bottom left. Answers 0, 1 or 2. */
+/* Sets the colours of the scissor box: the whole target where boxed is 0, else the box, counted from the bottom left. Answers 0, 1 or 2.
+ * A target has 4 x width x height bytes of colours and width x height depths, rows from the top; a call that is lent one of the two is told
+ * the other's length, colors_len in bytes, depths_len in floats. */
 uint32_t tf_clear_color(uint8_t *colors, size_t colors_len, size_t depths_len, uint32_t width, uint32_t height,
                         uint8_t r, uint8_t g, uint8_t b, uint8_t a, uint32_t boxed, int32_t box_x, int32_t box_y,
                         int32_t box_width, int32_t box_height);
@@ -91,9 +115,9 @@ uint32_t tf_patch_level(const uint8_t *record, size_t record_len, uint8_t *store
 uint32_t tf_set_parameter(uint8_t *record, size_t record_len, uint32_t pname, uint32_t value);
 
 /*
- * Draws one triangle. units: the records of the units 0 to 3, 976 bytes; settings: 144 bytes; stages: 24 bytes each; vertices: 204 bytes
- * (docs/INTERFACE.md, Draw). Answers the count of pixel writes, or a refusal's number times 2^32: 1, 2, 3, 4, 7, 6, 8 or 5, in the order
- * of the checks, or 255 for a wrong layout, before them.
+ * Draws one triangle. units: the records of the units 0 to 3, 976 bytes, of which those that the stages name are looked at;
+ * settings: 144 bytes; stages: 24 bytes each; vertices: 204 bytes (docs/INTERFACE.md, Draw). Answers the count of pixel writes, or a
+ * refusal's number times 2^32: 1, 2, 3, 4, 7, 6, 8 or 5, in the order of the checks, or 255 for a wrong layout, before them.
  */
 uint64_t tf_draw_triangle(uint8_t *colors, size_t colors_len, float *depths, size_t depths_len, uint32_t width,
                           uint32_t height, const uint8_t *store, size_t store_len, const uint8_t *units,

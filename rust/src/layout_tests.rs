@@ -189,6 +189,33 @@ fn each_operation_is_refused_by_its_numbers() {
 }
 
 #[test]
+fn a_record_with_an_unknown_code_is_refused_first() {
+    let (mut target, mut store) = (Target::new(4, 4).unwrap(), Store::new(64));
+    for at in [228, 232, 236, 240] {
+        let mut record = *Texture::new().as_bytes();
+        record[at + 3] = 1;
+        let mut texture = Texture::from_bytes(record);
+        assert_eq!(texture.define_level(&mut store, 11, 1, 1, 0, &[]), Err(Refusal::Layout));
+        assert_eq!(texture.patch_level(&mut store, 11, [0; 4], &[]), Err(Refusal::Layout));
+        assert_eq!(texture.set_parameter(0, 0), Err(Refusal::Layout));
+        assert_eq!(texture.set_min_filter(MinFilter::Nearest), Err(Refusal::Layout));
+        assert_eq!(texture.sample(&store, 0.0, 0.0, Gradients::default()), Err(Refusal::Layout));
+        assert_eq!(texture, Texture::from_bytes(record));
+        let (far, none) = (Settings { scissor: Some(Rect::new(8_193, 0, 1, 1)), ..Settings::default() }, Texture::new());
+        for unit in 0..4 {
+            let units = std::array::from_fn(|k| if k == unit { &texture } else { &none });
+            let mut draw = |stages: &[Stage]| target.draw_triangle(&store, units, &far, stages, &[Vertex::default(); 3]);
+            // What no stage names is not looked at: the scissor is refused.
+            assert_eq!(draw(&[]), Err(Refusal::Scissor));
+            for named in 0..4 {
+                let stage = Stage::new(named as u32, Environment::Modulate);
+                assert_eq!(draw(&[stage]), Err(if named == unit { Refusal::Layout } else { Refusal::Scissor }));
+            }
+        }
+    }
+}
+
+#[test]
 fn the_pairs_of_document_01() {
     let settings = Settings { viewport: Rect::new(0, 0, 2, 2), ..Settings::default() };
     let [a, b, c, d] =

@@ -3,10 +3,13 @@
 //! The functions of `include/tilefringe.h` do the work; this crate owns the memory that they are lent and writes their layouts
 //! (`docs/INTERFACE.md`). A call answers [`Refusal`] where document 01 refuses it, and then all memory is as it was.
 //!
+//! The proofs suppose the floating-point environment that a thread has by default: each thread that calls asks [`float_environment`] once.
+//!
 //! ```
 //! use tilefringe::{Rect, Settings, Store, Target, Texture, Vertex};
 //!
-//! # fn main() -> Result<(), tilefringe::Refusal> {
+//! # fn main() -> Result<(), Box<dyn std::error::Error>> {
+//! tilefringe::float_environment()?;
 //! let mut target = Target::new(2, 2)?;
 //! target.clear_depth(1.0, None)?;
 //! let settings = Settings { viewport: Rect::new(0, 0, 2, 2), ..Settings::default() };
@@ -25,6 +28,7 @@
 #![deny(missing_docs)]
 
 mod decode;
+mod environment;
 mod ffi;
 mod refusal;
 mod settings;
@@ -36,11 +40,14 @@ pub use decode::{
     bytes_per_texel, compressed_image_size, decode_compressed_to_rgba, decode_compressed_to_rgba_into, decode_to_rgba, decode_to_rgba_into,
     CompressedFormat, Format, TexelType,
 };
+pub use environment::{float_environment, FloatEnvironment};
 pub use refusal::Refusal;
 pub use settings::{BlendFactor, CompareFunc, Environment, Face, FogMode, FrontFace, Rect, Settings, Stage};
 pub use target::Target;
 pub use texture::{Filter, Gradients, Level, MinFilter, Store, Texture, Wrap};
 pub use vertex::Vertex;
 
+#[cfg(test)]
+mod definition_tests;
 #[cfg(test)]
 mod layout_tests;

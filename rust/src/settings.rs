@@ -249,7 +249,7 @@ pub struct Settings {
     pub front_face: FrontFace,
     /// Whether red, green, blue and alpha are written.
     pub color_mask: [bool; 4],
-    /// Whether there is fog.
+    /// Whether there is fog. Its curve is [`FogMode::Exp`] by default, which is refused by 7 where this is on: linear fog sets its curve too.
     pub fog: bool,
     /// Its curve.
     pub fog_mode: FogMode,
@@ -266,7 +266,7 @@ pub struct Settings {
 }
 
 impl Default for Settings {
-    /// Those of the Rust's `PipelineState::default`.
+    /// Those of the Rust's `PipelineState::default`. Their viewport is 0 by 0: a draw by them writes nothing.
     fn default() -> Settings {
         Settings {
             viewport: Rect::default(),

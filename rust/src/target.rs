@@ -25,7 +25,8 @@ impl Target {
     /// The longest side.
     pub const MAX_SIDE: u32 = 4_096;
 
-    /// A target with every colour byte and depth 0. A side above 4,096 is refused by 1.
+    /// A target with every colour byte and depth 0: cleared to depth 1, it is ready for the depth test by Less. A side above 4,096 is refused
+    /// by 1.
     pub fn new(width: u32, height: u32) -> Result<Target, Refusal> {
         if width > Target::MAX_SIDE || height > Target::MAX_SIDE {
             return Err(Refusal::Target);
@@ -159,7 +160,8 @@ impl Target {
     }
 
     /// Draws a triangle with the textures of the units 0 to 3, and answers the count of pixel writes.
-    /// Refused by 2, 3, 4, 7, 6, 8 or 5, in this order.
+    /// Refused by 2, 3, 4, 7, 6, 8 or 5, in this order; before them by 255 where a texture made of bytes holds an unknown code and a stage
+    /// names its unit.
     ///
     /// ```
     /// use tilefringe::{Refusal, Settings, Store, Target, Texture, Vertex};

@@ -113,6 +113,11 @@ const MIN_FILTER: u32 = 0x2801;
 const WRAP_S: u32 = 0x2802;
 const WRAP_T: u32 = 0x2803;
 
+/// The parameters that have an effect, by OpenGL's names.
+#[cfg(test)]
+pub(crate) const PARAMETERS: [(&str, u32); 4] =
+    [("TEXTURE_MAG_FILTER", MAG_FILTER), ("TEXTURE_MIN_FILTER", MIN_FILTER), ("TEXTURE_WRAP_S", WRAP_S), ("TEXTURE_WRAP_T", WRAP_T)];
+
 impl Texture {
     /// The bytes of its record's layout.
     pub const SIZE: usize = 244;
@@ -126,7 +131,8 @@ impl Texture {
         Texture(record)
     }
 
-    /// A texture of a record's layout, as it is: its faults are found by the calls that read it.
+    /// A texture of a record's layout, as it is: its faults are found by the calls that read it. To an unknown filter or wrap they answer
+    /// [`Refusal::Layout`], whatever else is wrong.
     pub fn from_bytes(record: [u8; Texture::SIZE]) -> Texture {
         Texture(record)
     }
@@ -177,7 +183,7 @@ impl Texture {
         Wrap::ALL.iter().copied().find(|w| w.code() == self.word(240))
     }
 
-    /// Puts an image of RGBA texels at a place in the store and enters its level. Refused by 9, 8, 11 or 10.
+    /// Puts an image of RGBA texels at a place in the store, counted in bytes, and enters its level. Refused by 9, 8, 11 or 10.
     pub fn define_level(
         &mut self,
         store: &mut Store,

@@ -1,5 +1,12 @@
 /// A vertex: seventeen floats, in clip space.
-#[derive(Clone, Copy, Debug, Default, PartialEq)]
+///
+/// ```
+/// use tilefringe::Vertex;
+/// let corner = Vertex { position: [-1.0, -1.0, 0.0, 1.0], ..Vertex::default() };
+/// assert_eq!(corner.color, [1.0; 4]);
+/// assert_eq!(Vertex::default().position, [0.0, 0.0, 0.0, 1.0]);
+/// ```
+#[derive(Clone, Copy, Debug, PartialEq)]
 pub struct Vertex {
     /// x, y, z, w.
     pub position: [f32; 4],
@@ -9,6 +16,13 @@ pub struct Vertex {
     pub texcoords: [[f32; 2]; 4],
     /// The depth that fog goes by.
     pub fog_depth: f32,
+}
+
+impl Default for Vertex {
+    /// That of the Rust's `Vertex::default`: white, at the origin with w 1; all else 0.
+    fn default() -> Vertex {
+        Vertex { position: [0.0, 0.0, 0.0, 1.0], color: [1.0; 4], texcoords: [[0.0; 2]; 4], fog_depth: 0.0 }
+    }
 }
 
 impl Vertex {

@@ -105,7 +105,7 @@ impl Workload for Draw {
             "draw_blended" => Some(1.25),
             "draw_nearest" | "draw_clipped" => Some(1.15),
             "draw_fogged" | "draw_small_12" => Some(1.1),
-            "draw_small_textured" => Some(1.7),
+            "draw_small_textured" => Some(1.5),
             _ => BAR,
         }
     }

@@ -1,64 +1,19 @@
--- The triangles left by clipping: how a loop runs over a fan, how many there are, and that a triangle wholly inside is left whole. Assumes nothing.
-use Prim.Native.Nat.{ℕ, zero, suc, ◌+◌, ◌-◌, ◌<◌, ◌≤◌}
-use mathlib.Core.Path.{◌≡◌, refl, sym, ◌∙◌}
+-- The triangles left by clipping: how many there are, and that a triangle wholly inside is left whole. Assumes nothing.
+use Prim.Native.Nat.{ℕ, ◌-◌, ◌≤◌}
+use mathlib.Core.Path.{◌≡◌, refl}
 use mathlib.Core.Bool.{Bool, true, false, cond}
 use mathlib.Core.List.{List, [], ◌∷◌}
-use lib.ListN.{length, get_or, drop, drop_of_length-le}
-use lib.Seq.{drop-cons}
-use native.Mathlib.Numerals.{add-one}
-use native.Mathlib.Decide.{dec_lt}
+use lib.ListN.{length}
 use native.Mathlib.Omega.{arith}
 use Rattle.std.proofs.lemmas.Bool.{and_parts, false≢true}
-use Rattle.lists.specs.Lists.{between}
-use Rattle.lists.proofs.Turns.{between_more, between_done}
 use Rattle.lists.proofs.Choice.{was_true}
 use Rattle.vertices.specs.declared.Vertex.{Vertex}
 use Rattle.std.specs.List.{list_all}
 use Rattle.vertices.specs.declared.Plane.{Plane}
-use Rattle.vertices.specs.Vertex.{planes, inside, inside_frustum, past}
+use Rattle.vertices.specs.Vertex.{planes, inside, inside_frustum}
 use Rattle.clip.specs.Clip.{insides, clip_plane, clip_each, clipped, all_inside}
-use Rattle.clip.specs.Fan.{Triangle, triangle_of, fan_at, fan_of, left_of, draw_each}
+use Rattle.clip.specs.Fan.{Triangle, triangle_of, fan_at, fan_of, left_of}
 use Rattle.clip.proofs.Laws.{clipped_few}
-
--- ---- a loop over the fan of a polygon
-
--- the step of triangle i: corner 0 with corners i and i + 1
-unfoldable pub fan_step : {S : Type 0} → (Triangle → S → S) → List Vertex → ℕ → S → S
-fan_step f l i x = f (triangle_of (get_or l 0 past) (get_or l i past) (get_or l (i + 1) past)) x
-
-module _ {S : Type 0} (f : Triangle → S → S) (v : Vertex) (l : List Vertex) where
-  abbrev at : ℕ → S → S
-  at i = f (triangle_of v (get_or l i past) (get_or l (i + 1) past))
-
-  last : (i : ℕ) → length l ≤ i + 1 → Dec (i < length l) → fan_at v (drop i l) ≡ []
-  unfolding fan_at
-  last i h (yes k) = rw (drop-cons l i past k, ← add-one i, drop_of_length-le l h)
-  last i h (no k) = let e : length l ≤ i = omega arith in rw (drop_of_length-le l e)
-
-  first : (i : ℕ) → i + 1 < length l → fan_at v (drop i l) ≡ triangle_of v (get_or l i past) (get_or l (i + 1) past) ∷ fan_at v (drop (i + 1) l)
-  unfolding fan_at
-  first i h =
-      let k : i < length l = omega arith in
-      rw (drop-cons l i past k, ← add-one i, drop-cons l (i + 1) past h)
-
-  ended : (i : ℕ) (s : S) → length l ≤ i + 1 → draw_each f (fan_at v (drop i l)) s ≡ between at i (length l - 1) s
-  unfolding draw_each
-  ended i s h = rw (last i h (dec_lt i (length l))) (sym (between_done at s i (length l - 1) (omega arith)))
-
-  goes : (i : ℕ) (s : S) → ((t : S) → draw_each f (fan_at v (drop (i + 1) l)) t ≡ between at (i + 1) (length l - 1) t) → Dec (i + 1 < length l) → draw_each f (fan_at v (drop i l)) s ≡ between at i (length l - 1) s
-  unfolding draw_each
-  goes i s h (yes k) = rw (first i k) (h (at i s) ∙ sym (between_more at s i (length l - 1) (omega arith)))
-  goes i s h (no k) = ended i s (omega arith)
-
-  from : (n i : ℕ) (s : S) → length l ≤ i + n + 1 → draw_each f (fan_at v (drop i l)) s ≡ between at i (length l - 1) s
-  from zero i s h = ended i s (omega arith)
-  from (suc n) i s h = goes i s (λ t. from n (i + 1) t (omega arith)) (dec_lt (i + 1) (length l))
-
--- a loop `for i in 1..n - 1` over n corners draws their fan
-pub fan_loop : {S : Type 0} (f : Triangle → S → S) (l : List Vertex) (x : S) → draw_each f (fan_of l) x ≡ between (fan_step f l) 1 (length l - 1) x
-unfolding fan_step fan_of draw_each
-fan_loop f [] x = sym (between_done _ x 1 (0 - 1) (omega arith))
-fan_loop f (v ∷ l) x = from f v (v ∷ l) (length l) 1 x (omega arith)
 
 -- ---- how many
 

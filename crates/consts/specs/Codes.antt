@@ -194,7 +194,7 @@ GL_ONE_MINUS_DST_COLOR = 0x0307
 abbrev pub GL_SRC_ALPHA_SATURATE : ℕ
 GL_SRC_ALPHA_SATURATE = 0x0308
 
--- Faces and shading
+-- Faces
 abbrev pub GL_FRONT : ℕ
 GL_FRONT = 0x0404
 
@@ -209,12 +209,6 @@ GL_CW = 0x0900
 
 abbrev pub GL_CCW : ℕ
 GL_CCW = 0x0901
-
-abbrev pub GL_FLAT : ℕ
-GL_FLAT = 0x1D00
-
-abbrev pub GL_SMOOTH : ℕ
-GL_SMOOTH = 0x1D01
 
 -- Texture environments and fog
 abbrev pub GL_BLEND : ℕ

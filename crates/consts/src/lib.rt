@@ -131,7 +131,7 @@ pub const GL_ONE_MINUS_DST_COLOR: u32 = 0x0307;
 
 pub const GL_SRC_ALPHA_SATURATE: u32 = 0x0308;
 
-// Faces and shading
+// Faces
 pub const GL_FRONT: u32 = 0x0404;
 
 pub const GL_BACK: u32 = 0x0405;
@@ -141,10 +141,6 @@ pub const GL_FRONT_AND_BACK: u32 = 0x0408;
 pub const GL_CW: u32 = 0x0900;
 
 pub const GL_CCW: u32 = 0x0901;
-
-pub const GL_FLAT: u32 = 0x1D00;
-
-pub const GL_SMOOTH: u32 = 0x1D01;
 
 // Texture environments and fog
 pub const GL_BLEND: u32 = 0x0BE2;

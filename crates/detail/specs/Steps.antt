@@ -24,7 +24,7 @@ pub record Largest (q : Float) (n : ℕ) : Type 0 where
   pub next_not : num q ^ 128 < 2 ^ suc n * den q ^ 128
 
 -- Document 01, Level of detail: the largest whole number n with 2 ^ n ≤ q ^ 128, for a finite q of 1 or more.
--- It is one less than the number of binary digits of q ^ 128 rounded down; the law `steps-largest` says that it is `Largest`.
+-- It is one less than the number of binary digits of q ^ 128 rounded down; the law `steps_largest` says that it is `Largest`.
 unfoldable pub steps_of : Float → ℕ
 steps_of q = size (num q ^ 128 / den q ^ 128) - 1
 

@@ -21,7 +21,10 @@ use stages::Stages;
 use vertices::Triangle;
 
 // The record that each stage reads, in the stage's place of the four; what stands behind them says nothing.
-fn bind(units: &[Texture; 4], stages: &[TextureStage]) -> [Texture; 4]
+fn bind(
+    units: &[Texture; PipelineState::MAX_TEXTURE_UNITS],
+    stages: &[TextureStage],
+) -> [Texture; PipelineState::MAX_TEXTURE_STAGES]
     requires { stages_fit stages.now (length stages.now) ≡ true }
     ensures { take (length stages.now) result ≡ take (length stages.now) (bound_to stages.now (length stages.now) units.now) }
 {
@@ -79,9 +82,9 @@ pub fn draw_triangle(
     width: u32,
     height: u32,
     store: &[u8],
-    units: [Texture; 4],
+    units: [Texture; PipelineState::MAX_TEXTURE_UNITS],
     state: PipelineState,
-    stages: [TextureStage; 4],
+    stages: [TextureStage; PipelineState::MAX_TEXTURE_STAGES],
     count: usize,
     t: Triangle,
 ) -> Result<usize, Refusal>

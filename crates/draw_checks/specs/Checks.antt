@@ -13,7 +13,7 @@ use Rattle.settings.specs.declared.TextureStage.{TextureStage}
 use Rattle.settings.specs.declared.PipelineState.{PipelineState}
 use Rattle.scissor.specs.Check.{target_fits, scissor_fits, number_fits}
 use Rattle.vertices.specs.declared.Vertex.{Vertex}
-use Rattle.polygon.specs.Corners.{floats_of}
+use Rattle.vertices.specs.Floats.{floats_of}
 use Rattle.stages.specs.Stages.{stage_at, texture_at}
 
 -- whether f holds of 0, 1, .., n - 1

@@ -12,17 +12,14 @@ use levels::Texture;
 use settings::{FogMode, PipelineState, Rgba, TextureStage, Viewport};
 use vertices::{Triangle, Vertex};
 
-// The largest width or height of a viewport is that of a target.
-const MAX_VIEWPORT_SIDE: i32 = PipelineState::MAX_TARGET_SIDE as i32;
-
 #[tactic(auto, unfolding(crate::specs::Checks::viewport_fits))]
 fn viewport_fits(v: Viewport) -> bool
     ensures { result ≡ viewport_fits v }
 {
     scissor::number_fits(v.x)
         && scissor::number_fits(v.y)
-        && v.width <= MAX_VIEWPORT_SIDE
-        && v.height <= MAX_VIEWPORT_SIDE
+        && v.width <= PipelineState::MAX_VIEWPORT_SIDE
+        && v.height <= PipelineState::MAX_VIEWPORT_SIDE
 }
 
 // Kept: one call of all, as records_fit, each over its own test (2b)
@@ -60,16 +57,15 @@ fn fog_fits(s: PipelineState) -> bool
 fn stage_fits(x: TextureStage) -> bool
     ensures { result ≡ stage_fits x }
 {
-    x.unit < PipelineState::MAX_TEXTURE_STAGES && color_fits(x.env_color)
+    (x.unit as usize) < PipelineState::MAX_TEXTURE_UNITS && color_fits(x.env_color)
 }
 
 // Kept: check 6 refuses a count above four, so that before it the count is no length of the four; a struct of the pair would hold no fact,
 // since the count is that of the layouts that C lends (6a)
-fn stages_fit(stages: [TextureStage; 4], count: usize) -> bool
+fn stages_fit(stages: [TextureStage; PipelineState::MAX_TEXTURE_STAGES], count: usize) -> bool
     ensures { result ≡ stages_fit stages count }
 {
-    count <= PipelineState::MAX_TEXTURE_STAGES as usize
-        && stages[..count].iter().all(|x| stage_fits(*x))
+    count <= PipelineState::MAX_TEXTURE_STAGES && stages[..count].iter().all(|x| stage_fits(*x))
 }
 
 // The records that the stages in use read, valid over a store of len bytes.
@@ -133,7 +129,7 @@ pub fn check_early(
     colors: usize,
     depths: usize,
     s: PipelineState,
-    stages: [TextureStage; 4],
+    stages: [TextureStage; PipelineState::MAX_TEXTURE_STAGES],
     count: usize,
 ) -> Result<(), Refusal>
     ensures { answer_number result ≡ early_check width height colors depths s stages count }

@@ -5,6 +5,6 @@ use Rattle.answers.specs.declared.Refusal.{Refusal}
 use Rattle.settings.specs.declared.CullMode.{CullMode}
 use Rattle.settings.specs.Codes.{mode_of}
 
--- OpenGL ES 1.1, Culling; 0 is off
+-- OpenGL ES 1.1, Basic Polygon Rasterization; 0 is off
 unfoldable pub cull_of : ℕ → Result (Option CullMode) Refusal
 cull_of v = cond (eqb v 0) (Ok None) (result_map_both Some (λ why. why) (mode_of v))

@@ -1,5 +1,5 @@
 -- The byte layout of a draw's texture stages (docs/INTERFACE.md, "Draw"): 24 bytes a stage.
-use Rattle.std.specs.Prelude.{ℕ, ◌+◌, ◌*◌, ◌/◌, ◌%◌, Bool, true, false, cond, List, [], ◌∷◌, eqb, ltb, length, Option, Some, None}
+use Rattle.std.specs.Prelude.{ℕ, ◌+◌, ◌*◌, ◌/◌, ◌%◌, Bool, true, false, cond, List, [], ◌∷◌, eqb, ltb, length, take, Option, Some, None}
 use Rattle.std.specs.Result.{is_ok, result_unwrap_or}
 use Rattle.settings.specs.declared.TextureStage.{TextureStage}
 use Rattle.settings.specs.declared.TexEnvMode.TheVariants.{Modulate, Add}
@@ -33,3 +33,7 @@ stages_known b = cond (eqb (length b % 24) 0) (first_known b) false
 
 unfoldable pub read_stages : List ℕ → Option Stages
 read_stages b = cond (stages_known b) (Some (record { first = first_four b; count = length b / 24 })) None
+
+-- the stages in use, of those that are read
+unfoldable pub used : Stages → List TextureStage
+used x = take x.count x.first

@@ -1,19 +1,18 @@
 // The byte layouts of a draw, as they cross the C boundary (docs/INTERFACE.md): settings, stages, vertices and the units' records.
 #![tactic(auto)]
 
-ghost use Rattle.std.specs.Prelude.{◌≡◌, ℕ, cond, not, eqb, ◌+◌, ◌*◌, ◌≤◌, ◌<◌, length, is_some, from_bits};
+ghost use Rattle.std.specs.Prelude.{◌≡◌, ℕ, cond, not, eqb, ◌+◌, ◌*◌, ◌≤◌, ◌<◌, length, from_bits};
 ghost use Rattle.std.specs.Float.{binary32};
 ghost use Rattle.lists.specs.Lists.{tab};
 ghost use Rattle.layouts.specs.Words.{word};
 ghost use Rattle.draw_layouts.specs.Numbers.{signed_of, float_at, color_at};
 ghost use Rattle.draw_layouts.specs.Codes.{cull_of};
 ghost use Rattle.draw_layouts.specs.Settings.{viewport_of, scissor_of, mask_of, codes_known, state_of, read_settings};
-ghost use Rattle.draw_layouts.specs.Stages.{stage_or, stage_known, read_stages};
+ghost use Rattle.draw_layouts.specs.Stages.{stage_or, stage_known, read_stages, used};
 ghost use Rattle.draw_layouts.specs.Vertices.{read_vertex, read_vertices};
-ghost use Rattle.draw_layouts.specs.Units.{read_unit, read_units};
+ghost use Rattle.draw_layouts.specs.Units.{read_unit, named, unit_or, read_units};
 
 use answers::Refusal;
-use layouts::Layout;
 use levels::Texture;
 use settings::{
     BlendFactor, ColorMask, CompareFunc, CullMode, DepthRange, FogMode, FrontFace, PipelineState,
@@ -22,12 +21,24 @@ use settings::{
 use std::{array, num};
 use vertices::Vertex;
 
+// The bytes of the units' layout.
+pub const UNITS_SIZE: usize = 976;
+
 // The stages of a layout, of which the first four are read; count is that of all.
 // Kept: the count is no length of `first`: the C interface takes any number of stages, and a draw refuses more than four. (6a)
 #[derive(Clone, Copy, Debug, PartialEq)]
 pub struct Stages {
     pub first: [TextureStage; 4],
     pub count: usize,
+}
+
+impl Stages {
+    // The stages in use, of those that are read: all four where the count is above four.
+    pub fn used(&self) -> &[TextureStage]
+        ensures { result.now ≡ used self.now }
+    {
+        &self.first[..self.count.min(self.first.len())]
+    }
 }
 
 const UNUSED: TextureStage = TextureStage {
@@ -259,36 +270,36 @@ fn unit_at(b: &[u8], at: usize) -> Option<Texture>
     layouts::read_record(&b[at..at + 244])
 }
 
-fn unit_layout_at(b: &[u8], at: usize) -> Option<Layout<'_>>
-    requires { at + 244 ≤ length b.now }
-    ensures { is_some result ≡ is_some (read_unit b.now at) }
+// Whether a stage names unit u.
+#[tactic(auto, unfolding(crate::specs::Units::named))]
+fn is_named(stages: &[TextureStage], u: u32) -> bool
+    ensures { result ≡ named stages.now u }
 {
-    Layout::new(&b[at..at + 244])
+    stages.iter().any(|stage| stage.unit == u)
 }
 
-// Whether a layout holds the units' records: for a draw that reads none of them.
-// Kept: `read_units(b).is_some()` would copy four records of eleven levels for a draw that reads none; a Layout gives a level, and no record. (1h)
-// Kept: with `(0..4).all(|k| unit_layout_at(b, 244 * k).is_some())` the goal returns-then-b-eq976 stays open (3f)
-#[tactic(auto, using(std::proofs::lemmas::Bool::Decides::nat_tests), unfolding(crate::specs::Units::read_units))]
-pub fn are_units_known(b: &[u8]) -> bool
-    ensures { result ≡ is_some (read_units b.now) }
+// The record of unit u where a stage names it. What stands there for another unit is not looked at.
+#[tactic(auto, unfolding(crate::specs::Units::unit_or))]
+fn unit_or(b: &[u8; UNITS_SIZE], stages: &[TextureStage], u: u32) -> Option<Texture>
+    requires { u < 4 }
+    ensures { result ≡ unit_or stages.now b.now u }
 {
-    b.len() == 976
-        && unit_layout_at(b, 0).is_some()
-        && unit_layout_at(b, 244).is_some()
-        && unit_layout_at(b, 488).is_some()
-        && unit_layout_at(b, 732).is_some()
+    if is_named(stages, u) {
+        return unit_at(b, u as usize * 244);
+    }
+    Some(Texture::new())
 }
 
+// The records that the stages in use name; a unit that none of them names has the default record, which nothing reads.
 #[tactic(auto, using(std::proofs::lemmas::Bool::Decides::nat_tests), unfolding(crate::specs::Units::read_units))]
-pub fn read_units(b: &[u8]) -> Option<[Texture; 4]>
-    ensures { result ≡ read_units b.now }
+pub fn read_units(b: &[u8], stages: &[TextureStage]) -> Option<[Texture; 4]>
+    ensures { result ≡ read_units stages.now b.now }
 {
-    let b = <&[u8; 976]>::try_from(b).ok()?;
+    let b = <&[u8; UNITS_SIZE]>::try_from(b).ok()?;
     // Kept: with `array::try_from_fn(|k| unit_at(b, 244 * k).ok_or(())).ok()` the goal returns stays open (3f)
-    let first = unit_at(b, 0)?;
-    let second = unit_at(b, 244)?;
-    let third = unit_at(b, 488)?;
-    let fourth = unit_at(b, 732)?;
+    let first = unit_or(b, stages, 0)?;
+    let second = unit_or(b, stages, 1)?;
+    let third = unit_or(b, stages, 2)?;
+    let fourth = unit_or(b, stages, 3)?;
     Some([first, second, third, fourth])
 }

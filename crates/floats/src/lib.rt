@@ -2,8 +2,6 @@
 #![tactic(auto)]
 
 ghost use Rattle.std.specs.Prelude.{◌≡◌};
-ghost use Rattle.std.specs.Float.Ieee as Ieee;
-ghost use Rattle.std.specs.Float.{binary32};
 ghost use Rattle.floats.specs.Num.{min_of, max_of, clamp_of, abs_of, finite_of, bounded_of};
 
 // a.min(b): the other number where one is NaN, the first of two zeros.
@@ -55,17 +53,17 @@ pub fn is_finite(x: f32) -> bool
     x.is_finite()
 }
 
+// A number's magnitude, as document 01's rule of 4 limits it.
+#[derive(Clone, Copy, Debug, PartialEq, Eq, Hash)]
+pub struct Magnitude;
+
+impl Magnitude {
+    pub const MAX: f32 = 1048576.0;
+}
+
 // Document 01's rule of 4: finite, and at most 1,048,576 in magnitude.
 pub fn is_bounded(x: f32) -> bool
     ensures { result ≡ bounded_of x }
 {
-    x <= 1048576.0 && x >= -1048576.0
-}
-
-// f32::from_bits(n): every NaN pattern is the one NaN.
-// Kept: public; replays and a probe read a float's bits by it, and it says by Ieee.of_bits what std says in its own words. (4d)
-pub fn from_bits(n: u32) -> f32
-    ensures { result ≡ Ieee.of_bits binary32 n }
-{
-    std::num::f32_from_bits_with_nan(n)
+    x <= Magnitude::MAX && x >= -Magnitude::MAX
 }

@@ -1,4 +1,4 @@
--- The claim of specs/Windows.antt from its premises, for any kinds of call that owe what `Owed` says. Each premise gives one part of
+-- The claim of specs/Windows.antt from its premises, and what holds without them, for any kinds of call that owe what `Owed` says. Each premise gives one part of
 -- "no guest reads what another wrote last", and the generic theorem does the rest. Assumes nothing.
 use mathlib.Core.Path.{◌≡◌, sym, ◌∙◌}
 use mathlib.Core.Logic.{◌⊎◌, inl, inr, ◌≢◌}
@@ -11,7 +11,7 @@ use Rattle.isolation.specs.Acts.{Uses}
 use Rattle.isolation.proofs.Alone.{isolation, untouched, still, EveryWriter, last_had, end_had, own, unwritten}
 use Rattle.frames.specs.State.{State, SameSizes, Place, sizes, pixel, byte, texture, Same, places, Answer}
 use Rattle.frames.proofs.Pixels.{all_colors, all_depths}
-use Rattle.frames.specs.Windows.{machine, bad_target, Owed, During, Premises, Claim}
+use Rattle.frames.specs.Windows.{machine, bad_target, Owed, During, Whole, Always, Premises, Claim}
 
 module _ {Texture Call : Type 0} (act : Call → Act (State Texture) Answer Place) (Box : ℕ → ℕ → Call → ℕ → Type 0)
     (Window : ℕ → ℕ → Guest → ℕ → Type 0) (Bad : ℕ → ℕ → ℕ → ℕ → Bool)
@@ -109,13 +109,36 @@ module _ {Texture Call : Type 0} (act : Call → Act (State Texture) Answer Plac
   as_it_began : bad_target act Box Window Bad s ≡ true → (l : Place) → (never l → ⊥) → Same l s (run M ms s)
   as_it_began bad l n = (untouched M laws ms (nobody M) s l (unwritten _ (λ h q. n (end_had M laws (λ h. never) ms s (no_pixel_writer bad) l h q)))).1
 
-  pub refused_target : bad_target act Box Window Bad s ≡ true → ((run M ms s).colors ≡ s.colors) × ((run M ms s).depths ≡ s.depths)
+  pub refused_target : Whole act Box Window Bad ms s
   unfolding never
   refused_target bad =
       let z : SameSizes s (run M ms s) = as_it_began bad sizes (λ x. x) in (
         sym (all_colors s.colors (run M ms s).colors s.depths (run M ms s).depths z.same_colors (λ p. as_it_began bad (pixel p) (λ x. x))),
         sym (all_depths s.colors (run M ms s).colors s.depths (run M ms s).depths z.same_depths (λ p. as_it_began bad (pixel p) (λ x. x))),
       )
+
+  -- nor have the sizes a writer
+  sized : (l : Place) → Type 0
+  sized sizes = ⊥
+  sized (pixel p) = Unit {0}
+  sized (byte b) = Unit {0}
+  sized (texture n) = Unit {0}
+
+  no_size_writer : EveryWriter M laws (λ h. sized) ms s (nobody M)
+  unfolding sized
+  no_size_writer e i sizes x = true≢false (sym x ∙ (owed e.turn.call).keeps e.before)
+  no_size_writer e i (pixel p) x = tt
+  no_size_writer e i (byte b) x = tt
+  no_size_writer e i (texture n) x = tt
+
+  -- WHAT ALWAYS HOLDS
+  pub always : Always act Box Window Bad ms s
+  unfolding sized
+  always = record {
+    sizes_during = stayed;
+    sizes_after = (untouched M laws ms (nobody M) s sizes (unwritten _ (λ h q. end_had M laws (λ h. sized) ms s no_size_writer sizes h q))).1;
+    whole = refused_target;
+  }
 
   -- THE CLAIM FROM THE PREMISES
   pub claim : Premises act Box Window Bad ms s → Claim act Box Window Bad ms s

@@ -1,8 +1,9 @@
--- Document 01, "Demand 3 in full": the premises, each as 01 has it, and the claim, over any kinds of call on the shared state.
+-- Document 01, "Demand 3 in full": the premises, each as 01 has it, the claim, and what holds with no premise, over any kinds of call on
+-- the shared state.
 use Rattle.std.specs.Prelude.{◌≡◌, ◌⊎◌, ◌≢◌, Bool, true, false, List, ℕ, length}
 use Rattle.isolation.specs.Machine.{Guest, Act, Local, Machine, Turn, Moment, In, Own, run, answers_of, bill_of, alone, answer, nobody, moments, ReadsAt, WritesAt}
 use Rattle.isolation.specs.Acts.{Uses}
-use Rattle.frames.specs.State.{State, Place, sizes, pixel, byte, texture, places, pixel_at, Answer, cost, is_refused}
+use Rattle.frames.specs.State.{State, SameSizes, Place, sizes, pixel, byte, texture, places, pixel_at, Answer, cost, is_refused}
 
 -- Act: what each call means. Box: of a target's width and height, the pixels on it of a call's scissor box; none for a call that is
 -- not lent the frame. Window: those of a guest's window. Bad: number 1 refuses a target of that width and height with so many
@@ -26,6 +27,19 @@ module _ {Texture Call : Type 0} (act : Call → Act (State Texture) Answer Plac
   -- the calls of a list, from the start s, as they are made one after the other
   abbrev pub During : Moment (State Texture) Place Call → List (Turn Call) → State Texture → Type 0
   During e ms s = In e (moments machine ms s (nobody machine))
+
+  -- ---- With no premise, about any list ms from any start s
+
+  -- A whole target that 1 refuses ends as it began, to the last byte.
+  abbrev pub Whole : List (Turn Call) → State Texture → Type 0
+  Whole ms s = bad_target s ≡ true → ((run machine ms s).colors ≡ s.colors) × ((run machine ms s).depths ≡ s.depths)
+
+  -- WHAT ALWAYS HOLDS
+  pub record Always (ms : List (Turn Call)) (s : State Texture) : Type 0 where
+    -- sizes stay: width, height and the three lengths are the same at each call, and in the end
+    pub sizes_during : (e : Moment (State Texture) Place Call) → During e ms s → SameSizes s e.before
+    pub sizes_after : SameSizes s (run machine ms s)
+    pub whole : Whole ms s
 
   -- ---- The premises, about the list ms from the start s
 
@@ -67,4 +81,4 @@ module _ {Texture Call : Type 0} (act : Call → Act (State Texture) Answer Plac
     pub outside : (p : ℕ) → ((g : Guest) → Window s.width s.height g p → ⊥)
         → pixel_at (run machine ms s).colors (run machine ms s).depths p ≡ pixel_at s.colors s.depths p
     -- and so does a whole target that 1 refuses, to the last byte
-    pub whole : bad_target s ≡ true → ((run machine ms s).colors ≡ s.colors) × ((run machine ms s).depths ≡ s.depths)
+    pub whole : Whole ms s

@@ -1,5 +1,5 @@
 -- What a draw reads and writes is 01's list, no less and no more. Assumes nothing.
-use mathlib.Core.Path.{◌≡◌, refl, sym, ◌∙◌}
+use mathlib.Core.Path.{◌≡◌, refl, sym, ◌∙◌, subst}
 use mathlib.Core.Logic.{◌⊎◌, inl, inr}
 use mathlib.Core.Bool.{Bool, true, false, cond}
 use mathlib.Core.List.{List, [], ◌∷◌}
@@ -17,18 +17,17 @@ use Rattle.settings.specs.declared.TextureStage.{TextureStage}
 use Rattle.scissor.specs.Scissor.{pixel_in}
 use Rattle.scissor.specs.Check.{target_fits, scissor_fits}
 use Rattle.isolation.specs.Machine.{In}
-use Rattle.frames.specs.State.{Place, sizes, pixel, byte, texture, refused}
+use Rattle.frames.specs.State.{Place, sizes, pixel, byte, texture, refused, is_refused}
 use Rattle.frames.proofs.Fragments.{in_either}
 use Rattle.stages.specs.Stages.{stage_at, texture_at, no_texture}
-use Rattle.pixels.specs.Way.{drawn_to}
 use Rattle.draw_checks.specs.Checks.{viewport_fits, state_fits, fog_fits, stage_fits, stages_fit, early_check}
 use Rattle.draw.specs.Draw.{bound_at, bound_to, draw_check, draw_passed, draw_of, drew_all, outcome}
 use Rattle.draw_checks.proofs.Below.{below_at}
-use Rattle.draw_reads.specs.Items.{draw_items}
-use Rattle.draw_reads.specs.Takes.{Takes}
 use Rattle.draw_reads.proofs.Takes.{takes, takes_in}
 use Rattle.guests.specs.Calls.{Shared}
 use Rattle.guest_draws.specs.Draw.{DrawCall, name_at, records_of, stage_records, names_of, scissor_of, early_number, late_number, draw_number, drawing_of, Passed, drawing}
+use Rattle.guests.specs.Exact.{Done}
+use Rattle.guest_draws.specs.Exact.{Named, TakesByte, DrawExact}
 use Rattle.guest_draws.proofs.Named.{names_stage, unit_record}
 
 -- ---- two checks in a row
@@ -69,12 +68,6 @@ early_number_is width height colors depths s stages n =
     ((λ e. omega arith), (λ e. omega arith))) ((λ e. omega arith), (λ e. omega arith))) ((λ e. omega arith), (λ e. omega arith))) ((λ e. omega arith), (λ e. omega arith)))
     ((λ e. omega arith), (λ e. omega arith))
 
--- a name of a stage in use
-pub record Named (x : DrawCall) (n : ℕ) : Type 0 where
-  pub stage : ℕ
-  pub used : stage < x.args.count
-  pub name : n ≡ name_at x (stage_at x.args.stages stage).unit
-
 record Entry {A : Type 0} (n : ℕ) (f : ℕ → A) (a : A) : Type 0 where
   at : ℕ
   below : at < n
@@ -106,15 +99,11 @@ module _ (x : DrawCall) (s : Shared) where
   pub draw_reads_pixels : (p : ℕ) → eqb (draw_number x s) 0 ≡ true → pixel_in s.width s.height (scissor_of x) p ≡ true → (drawing x).Reads s (pixel p)
   draw_reads_pixels p e i = (passes e, i)
 
-  -- byte b is one of those that its stages take at a pixel that gets as far as them
-  abbrev pub TakesByte : ℕ → Type 0
-  TakesByte b = Takes s.store (drawing_of x s.textures) s.width (draw_items x.args.state s.width s.height x.args.a x.args.b x.args.c) (drawn_to s.colors s.depths 0) b
-
   -- it reads these and no other
-  pub draw_takes : (b : ℕ) → (drawing x).Reads s (byte b) → TakesByte b
+  pub draw_takes : (b : ℕ) → (drawing x).Reads s (byte b) → TakesByte x s b
   draw_takes b r = takes s.store (drawing_of x s.textures) s.width _ _ b r.1
 
-  pub draw_takes_all : (b : ℕ) → eqb (draw_number x s) 0 ≡ true → TakesByte b → (drawing x).Reads s (byte b)
+  pub draw_takes_all : (b : ℕ) → eqb (draw_number x s) 0 ≡ true → TakesByte x s b → (drawing x).Reads s (byte b)
   draw_takes_all b e t = (passes e, takes_in s.store (drawing_of x s.textures) s.width _ _ b t)
 
   -- ---- the records
@@ -194,3 +183,45 @@ stage_record x s f i e b =
     let k = few_units x.args.stages x.args.count (stages_do_fit _ _ _ _ x.args.state x.args.stages x.args.count e) in
     get_or_tab (bound_at x.args.stages x.args.count (records_of x f)) 4 i no_texture (omega (arith, k.0))
     ∙ rw (lt-ltb i x.args.count b) (unit_record x f _ (k.1 i b))
+
+-- ---- EXACTLY 01's LIST
+
+module _ (x : DrawCall) (s : Shared) where
+  is_drawn : Done (drawing x) s → eqb (draw_number x s) 0 ≡ true
+  unfolding draw_of
+  is_drawn e = go (eqb (draw_number x s) 0) e
+    where
+      go : (y : Bool) → is_refused (cond y (drew_all (draw_passed s.store s.width s.height x.args (records_of x s.textures) s.colors s.depths)) (outcome (refused (draw_number x s)) s.colors s.depths)).answer ≡ false
+          → y ≡ true
+      go true k = refl
+      go false k = absurd (true≢false k)
+
+  is_done : Passed x s → Done (drawing x) s
+  unfolding draw_of draw_check
+  is_done k = rw (k.0, k.1) refl
+
+  writes_inside : (p : ℕ) → (drawing x).writes s (pixel p) ≡ true → Done (drawing x) s × (pixel_in s.width s.height (scissor_of x) p ≡ true)
+  writes_inside p w =
+      let a = was_true (eqb (early_number x s) 0) w false≢true in
+      let b = was_true (eqb (late_number x s) 0) a.1 false≢true in
+      (is_done (a.0, b.0), b.1)
+
+  names_in : (n : ℕ) → eqb (early_number x s) 0 ≡ true → Named x n → (drawing x).Reads s (texture n)
+  names_in n e m = subst (λ (i : ℕ). (drawing x).Reads s (texture i)) (sym m.name) (draw_reads_records x s e m.stage m.used)
+
+  pub draw_exact : DrawExact x s
+  draw_exact = record {
+    reads_sizes = tt;
+    writes_no_sizes = refl;
+    reads_pixel = λ p. ((λ r. (is_done r.0, r.1)), (λ k. draw_reads_pixels x s p (is_drawn k.0) k.1));
+    reads_byte = λ b. ((λ r. (is_done r.0, draw_takes x s b r)), (λ k. draw_takes_all x s b (is_drawn k.0) k.1));
+    reads_texture = λ n. ((λ r. (r.0, draw_reads_named x s n r)), (λ k. names_in n k.0 k.1));
+    reads_late = refused_late_reads x s;
+    stage_record = stage_record x s;
+    writes_pixel = λ p. (writes_inside p, (λ k. (draw_writes_are x s (is_drawn k.0)).0 p ∙ k.1));
+    writes_no_byte = λ b. refl;
+    writes_no_texture = λ n. refl;
+    answers = refl;
+    leaves_colors = refl;
+    leaves_depths = refl;
+  }

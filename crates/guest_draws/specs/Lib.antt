@@ -1,2 +1,3 @@
 pub mod Draw
-pub mod SixCalls
+pub mod Exact
+pub mod EveryCall

@@ -1,2 +1,2 @@
-// Draws among the calls that guests make, and demand 3 for all six kinds of call. All of it is in specs/ and proofs/.
+// Draws among the calls that guests make, and demand 3 for every kind of call. All of it is in specs/ and proofs/.
 #![tactic(auto)]

@@ -62,3 +62,42 @@ module _ (n : ℕ) (f : Texture → Texture) (g : Texture → List ℕ → List 
       frame_on s (pixel p) x k = refl
       frame_on s (byte a) x k = sym (w.stay (s.textures n) s.store a k)
       frame_on s (texture m) x k = rw k refl
+
+-- A change of one texture's record alone, which looks at no sizes.
+module _ (n : ℕ) (f : Texture → Texture) where
+  abbrev pub ItsRecord : Place → Type 0
+  ItsRecord sizes = ⊥
+  ItsRecord (pixel p) = ⊥
+  ItsRecord (byte a) = ⊥
+  ItsRecord (texture m) = m ≡ n
+
+  abbrev pub recast_writes : Place → Bool
+  recast_writes sizes = false
+  recast_writes (pixel p) = false
+  recast_writes (byte a) = false
+  recast_writes (texture m) = eqb m n
+
+  abbrev pub recast : Act Shared Answer Place
+  recast = record { does = λ s. (done, with_texture s n (f (s.textures n)) s.store); Reads = λ s. ItsRecord; writes = λ s. recast_writes }
+
+  pub recast_kept : (B : Shared → Type 0) (Q : Shared → ℕ → Type 0) → KeptOn B Q recast
+  recast_kept B Q = off_frame B Q recast (record { alike_on = alike_on; frame_on = frame_on }) (λ s. refl) none
+    where
+      none : (s : Shared) (p : ℕ) → Uses recast s (pixel p) → ⊥
+      none s p (inl r) = r
+      none s p (inr r) = true≢false (sym r)
+
+      after : (s t : Shared) → s.textures n ≡ t.textures n → (l : Place) → recast_writes l ≡ true → Same l (recast.does s).1 (recast.does t).1
+      after s t e sizes k = absurd (true≢false (sym k))
+      after s t e (pixel p) k = absurd (true≢false (sym k))
+      after s t e (byte a) k = absurd (true≢false (sym k))
+      after s t e (texture m) k = rw k (ap f e)
+
+      alike_on : (s t : Shared) → B s → B t → Agree places recast s t → Alike places recast s t
+      alike_on s t x y h = record { answer = refl; footprint = λ l. refl; written = after s t (h (texture n) refl) }
+
+      frame_on : (s : Shared) (l : Place) → B s → recast_writes l ≡ false → Same l s (recast.does s).1
+      frame_on s sizes x k = record { same_width = refl; same_height = refl; same_colors = refl; same_depths = refl; same_store = refl }
+      frame_on s (pixel p) x k = refl
+      frame_on s (byte a) x k = refl
+      frame_on s (texture m) x k = rw k refl

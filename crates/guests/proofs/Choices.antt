@@ -41,6 +41,10 @@ put_back s n = λ i. record { width = s.width; height = s.height; colors = s.col
     there m true e = ap (λ k. s.textures k) (sym (eqb-true m n e))
     there m false e = refl
 
+-- a check that looks at the arguments alone
+abbrev pub Nothing : Place → Type 0
+Nothing l = ⊥
+
 -- a check that looks at the sizes alone
 abbrev pub JustSizes : Place → Type 0
 JustSizes sizes = Unit {0}

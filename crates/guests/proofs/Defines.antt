@@ -23,7 +23,7 @@ use Rattle.frames.proofs.Calls.{check_kept, owed_by}
 use Rattle.guests.specs.Calls as Calls
 use Rattle.guests.specs.Calls.{Shared, answer_of, with_texture, sides_check, define_number, DefineReads, define_touches}
 use Rattle.guests.specs.Guests.{define_level, meaning, InBox, InWindow, bad_target}
-use Rattle.guests.proofs.Choices.{same, once, one_number, put_back, JustSizes, SizesAnd}
+use Rattle.guests.proofs.Choices.{same, once, one_number, put_back, Nothing, SizesAnd}
 use Rattle.guests.proofs.Changes.{change, Stores, change_kept}
 
 module _ (n k w h place : ℕ) (rgba : List ℕ) where
@@ -43,7 +43,7 @@ module _ (n k w h place : ℕ) (rgba : List ℕ) where
   defines = change n new_record new_store bytes
 
   abbrev whole : Act Shared Answer Place
-  whole = check (λ s. sides_check k w h) JustSizes refused (check rest (SizesAnd n) refused defines)
+  whole = check (λ s. sides_check k w h) Nothing refused (check rest (SizesAnd n) refused defines)
 
   stores : Stores n new_record new_store bytes
   stores = record {
@@ -70,13 +70,14 @@ module _ (n k w h place : ℕ) (rgba : List ℕ) where
   -- ---- the whole call
 
   reads : (s : Shared) (l : Place) → whole.Reads s l → DefineReads n k w h l
-  reads s sizes r = tt
-  reads s (pixel p) (inl r) = r
-  reads s (pixel p) (inr (e, inl r)) = r
-  reads s (pixel p) (inr (e, inr r)) = r.1
-  reads s (byte a) (inl r) = r
-  reads s (byte a) (inr (e, inl r)) = r
-  reads s (byte a) (inr (e, inr r)) = r.1
+  reads s sizes (inl r) = absurd r
+  reads s sizes (inr r) = r.0
+  reads s (pixel p) (inl r) = absurd r
+  reads s (pixel p) (inr (e, inl r)) = absurd r
+  reads s (pixel p) (inr (e, inr r)) = absurd r.1
+  reads s (byte a) (inl r) = absurd r
+  reads s (byte a) (inr (e, inl r)) = absurd r
+  reads s (byte a) (inr (e, inr r)) = absurd r.1
   reads s (texture m) (inl r) = absurd r
   reads s (texture m) (inr (e, inl r)) = (r, e)
   reads s (texture m) (inr (e, inr r)) = (r.1, e)
@@ -116,7 +117,7 @@ module _ (n k w h place : ℕ) (rgba : List ℕ) where
     pub define_level_owed : Owed (meaning drawing scissor_of) (InBox drawing scissor_of) (InWindow window) bad_target (define_level n k w h place rgba)
     define_level_owed =
         owed_by (meaning drawing scissor_of) (InBox drawing scissor_of) (InWindow window) bad_target (define_level n k w h place rgba) whole
-        (check_kept (λ s. Unit {0}) _ (λ s. sides_check k w h) JustSizes (check rest (SizesAnd n) refused defines) (λ p x. x) (λ s t x y g. refl)
+        (check_kept (λ s. Unit {0}) _ (λ s. sides_check k w h) Nothing (check rest (SizesAnd n) refused defines) (λ p x. x) (λ s t x y g. refl)
         (check_kept _ _ rest (SizesAnd n) defines (λ p x. x) (λ s t x y g. rw ((g sizes tt).same_store, g (texture n) refl))
         (change_kept n new_record new_store bytes _ _ stores)))
         (λ s. ap (λ x. x.0) (does s)) (λ s l. same _ _ (ap (λ x. x.1) (does s)) l) reads writes (λ s p r. absurd r)

@@ -4,6 +4,7 @@ pub mod Changes
 pub mod Settings
 pub mod Defines
 pub mod Patches
+pub mod NewRecords
 pub mod Exact
 pub mod Draws
 pub mod Guests

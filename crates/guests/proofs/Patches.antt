@@ -2,7 +2,7 @@
 -- Assumes nothing.
 use Rattle.lists.proofs.Choice.{neither}
 use Rattle.std.specs.Prelude.{Option}
-use mathlib.Core.Path.{◌≡◌, refl, sym, ap, ◌∙◌}
+use mathlib.Core.Path.{◌≡◌, refl, sym, ap, ◌∙◌, subst}
 use mathlib.Core.Logic.{inl, inr}
 use mathlib.Core.Bool.{Bool, true, false, cond}
 use mathlib.Core.List.{List}
@@ -48,12 +48,12 @@ module _ (n k x y w h : ℕ) (rgba : List ℕ) where
 
   reads : (s : Shared) (l : Place) → whole.Reads s l → PatchReads n l
   reads s sizes r = tt
-  reads s (pixel p) (inl r) = r
-  reads s (pixel p) (inr r) = r.1
-  reads s (byte a) (inl r) = r
-  reads s (byte a) (inr r) = r.1
-  reads s (texture m) (inl r) = r
-  reads s (texture m) (inr r) = r.1
+  reads s (pixel p) (inl r) = absurd r
+  reads s (pixel p) (inr r) = absurd r.1
+  reads s (byte a) (inl r) = absurd r
+  reads s (byte a) (inr r) = absurd r.1
+  reads s (texture m) (inl r) = subst (λ (i : ℕ). PatchReads n (texture i)) (sym r) refl
+  reads s (texture m) (inr r) = subst (λ (i : ℕ). PatchReads n (texture i)) (sym r.1) refl
 
   writes : (s : Shared) (l : Place) → whole.writes s l ≡ patch_touches n k x y w h rgba s l
   unfolding patch_writes

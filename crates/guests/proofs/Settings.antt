@@ -3,7 +3,7 @@ use Rattle.lists.proofs.Choice.{neither}
 use Rattle.std.specs.Prelude.{Option}
 use mathlib.Core.Path.{◌≡◌, refl, sym}
 use mathlib.Core.Logic.{inl, inr}
-use mathlib.Core.Bool.{Bool, true, false, cond, true≢false}
+use mathlib.Core.Bool.{Bool, true, false, cond}
 use Prim.Native.Nat.{ℕ}
 use lib.Dec.{eqb}
 use Rattle.settings.specs.declared.ScissorBox.{ScissorBox}
@@ -16,22 +16,23 @@ use Rattle.frames.proofs.Calls.{check_kept, owed_by}
 use Rattle.guests.specs.Calls as Calls
 use Rattle.guests.specs.Calls.{Shared, answer_of, with_texture, SetReads, set_touches}
 use Rattle.guests.specs.Guests.{set_parameter, meaning, InBox, InWindow, bad_target}
-use Rattle.guests.proofs.Choices.{same, put_back, JustSizes}
-use Rattle.guests.proofs.Changes.{change, Stores, change_kept}
+use Rattle.guests.proofs.Choices.{same, put_back, Nothing}
+use Rattle.guests.proofs.Changes.{recast, recast_kept}
 
 module _ (n code value : ℕ) where
   abbrev sets : Act Shared Answer Place
-  sets = change n (λ t. set_record t code value) (λ t st. st) (λ t k a. false)
+  sets = recast n (λ t. set_record t code value)
 
   abbrev whole : Act Shared Answer Place
-  whole = check (λ s. set_check code value) JustSizes refused sets
+  whole = check (λ s. set_check code value) Nothing refused sets
 
   reads : (s : Shared) (l : Place) → whole.Reads s l → SetReads n code value l
-  reads s sizes r = tt
-  reads s (pixel p) (inl r) = r
-  reads s (pixel p) (inr r) = r.1
-  reads s (byte a) (inl r) = r
-  reads s (byte a) (inr r) = r.1
+  reads s sizes (inl r) = r
+  reads s sizes (inr r) = r.1
+  reads s (pixel p) (inl r) = absurd r
+  reads s (pixel p) (inr r) = absurd r.1
+  reads s (byte a) (inl r) = absurd r
+  reads s (byte a) (inr r) = absurd r.1
   reads s (texture m) (inl r) = absurd r
   reads s (texture m) (inr r) = (r.1, r.0)
 
@@ -61,13 +62,9 @@ module _ (n code value : ℕ) where
       go true = refl
       go false = sym (put_back s n)
 
-  stores : Stores n (λ t. set_record t code value) (λ t st. st) (λ t k a. false)
-  stores = record { long = λ t st. refl; stay = λ t st a e. refl; alike = λ t st su a q e. absurd (true≢false (sym e)) }
-
   module _ {Draw : Type 0} (drawing : Draw → Act Shared Answer Place) (scissor_of : Draw → Option ScissorBox) (window : Guest → ScissorBox) where
     pub set_parameter_owed : Owed (meaning drawing scissor_of) (InBox drawing scissor_of) (InWindow window) bad_target (set_parameter n code value)
     set_parameter_owed =
         owed_by (meaning drawing scissor_of) (InBox drawing scissor_of) (InWindow window) bad_target (set_parameter n code value) whole
-        (check_kept (λ s. Unit {0}) _ (λ s. set_check code value) JustSizes sets (λ p x. x) (λ s t x y g. refl)
-        (change_kept n (λ t. set_record t code value) (λ t st. st) (λ t k a. false) _ _ stores))
+        (check_kept (λ s. Unit {0}) _ (λ s. set_check code value) Nothing sets (λ p x. x) (λ s t x y g. refl) (recast_kept n (λ t. set_record t code value) _ _))
         answers (λ s l. same _ _ (leaves s) l) reads writes (λ s p r. inl r)

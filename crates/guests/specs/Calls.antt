@@ -1,8 +1,10 @@
 -- The calls of document 01, "Demand 3 in full", on the shared state. What a call does is the definition that its operation's contract
 -- cites, on the texture's record as last left. Beside it stands what the call reads and writes, as 01 lists it; a refused call has
--- read what was looked at before its refusal, and writes nothing. The sizes of target and store are looked at by every check.
+-- read what was looked at before its refusal, and writes nothing. Every call looks at the sizes of target and store but a setting, a
+-- new record and a define that 9 refuses.
 use Rattle.std.specs.Prelude.{◌≡◌, Bool, true, false, cond, List, ℕ, eqb, ltb, length, Float, Option}
 use Rattle.levels.specs.declared.Texture.{Texture}
+use Rattle.levels.specs.Levels.{new_texture}
 use Rattle.scissor.specs.Scissor.{pixel_in}
 use Rattle.render_target.specs.Clear.{clear_color_check, clear_depth_check, clear_color_of, clear_depth_of}
 use Rattle.texture.specs.Define.{define_check, define_of, define_writes}
@@ -83,7 +85,7 @@ define_number n k w h place rgba s = define_check (length s.store) (s.textures n
 
 -- 01: a define reads its texture, once 9 is passed
 abbrev pub DefineReads : ℕ → ℕ → ℕ → ℕ → Place → Type 0
-DefineReads n k w h sizes = Unit {0}
+DefineReads n k w h sizes = eqb (sides_check k w h) 0 ≡ true
 DefineReads n k w h (pixel p) = ⊥
 DefineReads n k w h (byte a) = ⊥
 DefineReads n k w h (texture m) = (m ≡ n) × (eqb (sides_check k w h) 0 ≡ true)
@@ -132,7 +134,7 @@ patch_level n k x y w h rgba = record {
 
 -- 01: a setting that isn't refused writes its texture. The rest of the record stays, so it is read too; 16 looks at the arguments.
 abbrev pub SetReads : ℕ → ℕ → ℕ → Place → Type 0
-SetReads n code value sizes = Unit {0}
+SetReads n code value sizes = ⊥
 SetReads n code value (pixel p) = ⊥
 SetReads n code value (byte a) = ⊥
 SetReads n code value (texture m) = (m ≡ n) × (eqb (set_check code value) 0 ≡ true)
@@ -148,4 +150,20 @@ set_parameter n code value = record {
   does = λ s. let o = set_of (s.textures n) code value in (answer_of o.answer, with_texture s n o.texture s.store);
   Reads = λ s. SetReads n code value;
   writes = λ s. set_touches n code value;
+}
+
+-- ---- A new record: texture n
+
+-- Texture::new, tf_new_texture: it is lent neither target nor store, and looks at nothing of what stood there. It writes its texture.
+abbrev pub new_touches : ℕ → Place → Bool
+new_touches n sizes = false
+new_touches n (pixel p) = false
+new_touches n (byte a) = false
+new_touches n (texture m) = eqb m n
+
+abbrev pub new_record : ℕ → Act Shared Answer Place
+new_record n = record {
+  does = λ s. (done, with_texture s n new_texture s.store);
+  Reads = λ s l. ⊥;
+  writes = λ s. new_touches n;
 }

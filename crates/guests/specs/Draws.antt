@@ -1,5 +1,5 @@
 -- A draw in parts: its checks before 8, its checks from 8 on, and its fragments. What such a draw reads and writes is 01's list.
-use Rattle.std.specs.Prelude.{◌≡◌, Bool, true, false, cond, not, List, ℕ, eqb, length, Option}
+use Rattle.std.specs.Prelude.{◌≡◌, Bool, true, false, cond, List, ℕ, eqb, length, Option}
 use Rattle.levels.specs.declared.Texture.{Texture}
 use Rattle.scissor.specs.Scissor.{pixel_in}
 use Rattle.scissor.specs.Check.{target_fits}

@@ -1,11 +1,11 @@
--- The list of calls, the guests' windows, and the statement: five kinds of call as 01 has them, and the draw as a parameter.
+-- The list of calls, the guests' windows, and the statement: the calls as 01 has them, with the draw as a parameter.
 use Rattle.std.specs.Prelude.{◌≡◌, Bool, true, not, List, ℕ, Float, Option, Some}
 use Rattle.settings.specs.declared.ScissorBox.{ScissorBox}
 use Rattle.scissor.specs.Scissor.{pixel_in}
 use Rattle.scissor.specs.Check.{target_fits}
 use Rattle.isolation.specs.Machine.{Guest, Act, Turn}
 use Rattle.frames.specs.State.{Place, Answer}
-use Rattle.frames.specs.Windows.{Owed, Premises, Claim}
+use Rattle.frames.specs.Windows.{Owed, Always, Premises, Claim}
 use Rattle.guests.specs.Calls as Calls
 use Rattle.guests.specs.Calls.{Shared}
 
@@ -17,6 +17,7 @@ pub data Call (Draw : Type 0) : Type 0 where
   define_level : ℕ → ℕ → ℕ → ℕ → ℕ → List ℕ → Call Draw
   patch_level : ℕ → ℕ → ℕ → ℕ → ℕ → ℕ → List ℕ → Call Draw
   set_parameter : ℕ → ℕ → ℕ → Call Draw
+  new_record : ℕ → Call Draw
 
 -- 01: a window is a box as a scissor is; its pixels are those of the target in it
 abbrev pub InWindow : (Guest → ScissorBox) → ℕ → ℕ → Guest → ℕ → Type 0
@@ -35,6 +36,7 @@ module _ {Draw : Type 0} (drawing : Draw → Act Shared Answer Place) (scissor_o
   meaning (define_level n k w h place rgba) = Calls.define_level n k w h place rgba
   meaning (patch_level n k x y w h rgba) = Calls.patch_level n k x y w h rgba
   meaning (set_parameter n code value) = Calls.set_parameter n code value
+  meaning (new_record n) = Calls.new_record n
 
   -- The pixels of a target in the call's scissor box. An absent scissor is the whole target. Only clears and draws have one.
   abbrev pub InBox : ℕ → ℕ → Call Draw → ℕ → Type 0
@@ -44,11 +46,15 @@ module _ {Draw : Type 0} (drawing : Draw → Act Shared Answer Place) (scissor_o
   InBox width height (define_level n k w h place rgba) p = ⊥
   InBox width height (patch_level n k x y w h rgba) p = ⊥
   InBox width height (set_parameter n code value) p = ⊥
+  InBox width height (new_record n) p = ⊥
 
   module _ (window : Guest → ScissorBox) where
     -- What a draw owes: see frames, specs/Windows.antt.
     abbrev pub DrawOwes : Draw → Type 0
     DrawOwes d = Owed meaning InBox (InWindow window) bad_target (draw d)
+
+    abbrev pub GuestAlways : List (Turn (Call Draw)) → Shared → Type 0
+    GuestAlways = Always meaning InBox (InWindow window) bad_target
 
     abbrev pub GuestPremises : List (Turn (Call Draw)) → Shared → Type 0
     GuestPremises = Premises meaning InBox (InWindow window) bad_target
@@ -56,11 +62,15 @@ module _ {Draw : Type 0} (drawing : Draw → Act Shared Answer Place) (scissor_o
     abbrev pub GuestClaim : List (Turn (Call Draw)) → Shared → Type 0
     GuestClaim = Claim meaning InBox (InWindow window) bad_target
 
-    -- THE STATEMENT, for a draw that owes what every call owes. With the draw of 01 in its place it is demand 3: guest_draws, specs/SixCalls.antt.
+    -- THE STATEMENT, for a draw that owes what every call owes. With the draw of 01 in its place it is demand 3: guest_draws, specs/EveryCall.antt.
     abbrev pub EachAsAlone : Type 0
     EachAsAlone = ((d : Draw) → DrawOwes d) → (ms : List (Turn (Call Draw))) (s : Shared) → GuestPremises ms s → GuestClaim ms s
 
--- ---- The five kinds of call without a draw
+    -- And what holds with no premise.
+    abbrev pub AlwaysHolds : Type 0
+    AlwaysHolds = ((d : Draw) → DrawOwes d) → (ms : List (Turn (Call Draw))) (s : Shared) → GuestAlways ms s
+
+-- ---- Lists without a draw
 
 abbrev pub no_drawing : ⊥ → Act Shared Answer Place
 no_drawing d = absurd d
@@ -68,6 +78,6 @@ no_drawing d = absurd d
 abbrev pub no_scissor : ⊥ → Option ScissorBox
 no_scissor d = absurd d
 
--- Clears, defines, patches and settings, by any number of guests: the statement with no draw in the list.
-abbrev pub FiveCalls : (Guest → ScissorBox) → Type 0
-FiveCalls window = (ms : List (Turn (Call ⊥))) (s : Shared) → GuestPremises no_drawing no_scissor window ms s → GuestClaim no_drawing no_scissor window ms s
+-- Calls of every kind but the draw, by any number of guests: the statement with no draw in the list.
+abbrev pub CallsWithoutDraws : (Guest → ScissorBox) → Type 0
+CallsWithoutDraws window = (ms : List (Turn (Call ⊥))) (s : Shared) → GuestPremises no_drawing no_scissor window ms s → GuestClaim no_drawing no_scissor window ms s

@@ -1,3 +1,4 @@
 pub mod Calls
+pub mod Exact
 pub mod Guests
 pub mod Draws

@@ -56,13 +56,13 @@ halves : (n : ℕ) → n < 18446744073709551616 → n % 4294967296 + 4294967296 
 halves n h = omega arith
 
 -- four bytes that stand the same in two lists
-word_same : (b l : List ℕ) (p q : ℕ) → ((j : ℕ) → j < 4 → get_or b (p + j) 0 ≡ get_or l (q + j) 0) → word b p ≡ word l q
+pub word_same : (b l : List ℕ) (p q : ℕ) → ((j : ℕ) → j < 4 → get_or b (p + j) 0 ≡ get_or l (q + j) 0) → word b p ≡ word l q
 unfolding word
 word_same b l p q h =
     let e0 : get_or b p 0 ≡ get_or l q 0 = ap (λ (i : ℕ). get_or b i 0) (sym (add-zero p)) ∙ h 0 (omega arith) ∙ ap (λ (i : ℕ). get_or l i 0) (add-zero q) in
     rw (e0, h 1 (omega arith), h 2 (omega arith), h 3 (omega arith))
 
-long_same : (b l : List ℕ) (p q : ℕ) → ((j : ℕ) → j < 8 → get_or b (p + j) 0 ≡ get_or l (q + j) 0) → long b p ≡ long l q
+pub long_same : (b l : List ℕ) (p q : ℕ) → ((j : ℕ) → j < 8 → get_or b (p + j) 0 ≡ get_or l (q + j) 0) → long b p ≡ long l q
 unfolding long
 long_same b l p q h =
     let e0 = word_same b l p q (λ j k. h j (omega arith)) in
@@ -78,7 +78,7 @@ long_same b l p q h =
 -- ---- one level
 
 module _ (m : MipLevel) where
-  flag_back : not (eqb (word (level_bytes m) 0) 0) ≡ m.present
+  pub flag_back : not (eqb (word (level_bytes m) 0) 0) ≡ m.present
   unfolding word level_bytes
   flag_back = here m.present
     where
@@ -86,21 +86,21 @@ module _ (m : MipLevel) where
       here true = refl
       here false = refl
 
-  width_back : m.width < 4294967296 → word (level_bytes m) 4 ≡ m.width
+  pub width_back : m.width < 4294967296 → word (level_bytes m) 4 ≡ m.width
   unfolding word level_bytes
   width_back h = digits m.width ∙ omega arith
 
-  height_back : m.height < 4294967296 → word (level_bytes m) 8 ≡ m.height
+  pub height_back : m.height < 4294967296 → word (level_bytes m) 8 ≡ m.height
   unfolding word level_bytes
   height_back h = digits m.height ∙ omega arith
 
 -- eight bytes of a number that fits them
-long_digits : (n : ℕ) → n < 18446744073709551616
+pub long_digits : (n : ℕ) → n < 18446744073709551616
     → (n % 256 + 256 * (n / 256 % 256) + 65536 * (n / 65536 % 256) + 16777216 * (n / 16777216 % 256))
     + 4294967296 * (n / 4294967296 % 256 + 256 * (n / 1099511627776 % 256) + 65536 * (n / 281474976710656 % 256) + 16777216 * (n / 72057594037927936 % 256)) ≡ n
 long_digits n h = rw (digits n, fifth n, sixth n, seventh n, digits (n / 4294967296)) (halves n h)
 
-place_back : (m : MipLevel) → m.place < 18446744073709551616 → long (level_bytes m) 12 ≡ m.place
+pub place_back : (m : MipLevel) → m.place < 18446744073709551616 → long (level_bytes m) 12 ≡ m.place
 unfolding long word level_bytes
 place_back m h = long_digits m.place h
 

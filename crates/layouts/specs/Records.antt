@@ -1,7 +1,11 @@
 -- The byte layout of a texture record (docs/INTERFACE.md, "Texture record"): eleven levels of 20 bytes, then 24 bytes for the rest.
 use Rattle.std.specs.Prelude.{Bool, false, cond, not, List, [], ◌∷◌, ◌++◌, ℕ, ◌+◌, ◌*◌, ◌/◌, ◌%◌, eqb, length, get_or, Option, Some, None}
 use Rattle.std.specs.Result.{is_ok, result_unwrap_or}
-use Rattle.lists.specs.Lists.{tab, flat}
+use Rattle.std.specs.Int.{to_le_bytes}
+use Rattle.std.proofs.Common.{w32, w64}
+use Rattle.std.proofs.Math.Seq.{paste}
+use Rattle.lists.specs.Lists.{tab, flat, iter}
+use Rattle.consts.specs.Codes.{GL_TEXTURE_MAG_FILTER, GL_TEXTURE_MIN_FILTER, GL_TEXTURE_WRAP_S, GL_TEXTURE_WRAP_T}
 use Rattle.levels.specs.declared.MipLevel.{MipLevel}
 use Rattle.levels.specs.declared.Texture.{Texture}
 use Rattle.levels.specs.declared.MinFilter.TheVariants as min
@@ -9,6 +13,7 @@ use Rattle.levels.specs.declared.Filter.TheVariants as mag
 use Rattle.levels.specs.declared.Wrap.TheVariants as wrap
 use Rattle.levels.specs.Codes.{min_filter_of, filter_of, wrap_of, min_code, mag_code, wrap_code}
 use Rattle.levels.specs.Levels.{absent}
+use Rattle.texture.specs.Define.{stays}
 use Rattle.layouts.specs.Words.{word, long}
 
 -- ---- reading
@@ -73,3 +78,24 @@ level_bytes_at l i = level_bytes (get_or l i absent)
 
 unfoldable pub record_bytes : Texture → List ℕ
 record_bytes t = flat 11 (level_bytes_at t.levels) ++ rest_bytes t
+
+-- ---- changing: each byte that is not put stays as found. That what is put reads back as the record: proofs/Defined, and tilefringe, proofs/Put
+
+-- 01, Demand 3 in full: a define enters the level, and the top level. The bytes of level i, unless it stays where level k is defined
+unfoldable pub put_level : ℕ → List MipLevel → ℕ → List ℕ → List ℕ
+put_level k l i b = cond (stays k i) b (paste b (i * 20) (level_bytes_at l i) 20)
+
+-- a layout after a define of level k, where t is the record that it leaves
+unfoldable pub put_define : ℕ → Texture → List ℕ → List ℕ
+put_define k t b = paste (iter 11 (put_level k t.levels) b) 220 (to_le_bytes w64 t.max_mipmap_level) 8
+
+-- the word at byte i
+abbrev pub put_word : ℕ → ℕ → List ℕ → List ℕ
+put_word i v b = paste b i (to_le_bytes w32 v) 4
+
+-- 01, Demand 3 in full: a setting changes its parameter, or nothing for a code without effect. v: the value, which is the parameter's word
+unfoldable pub put_parameter : ℕ → ℕ → List ℕ → List ℕ
+put_parameter p v b =
+    cond (eqb p GL_TEXTURE_MIN_FILTER) (put_word 228 v b)
+    (cond (eqb p GL_TEXTURE_MAG_FILTER) (put_word 232 v b)
+    (cond (eqb p GL_TEXTURE_WRAP_S) (put_word 236 v b) (cond (eqb p GL_TEXTURE_WRAP_T) (put_word 240 v b) b)))

@@ -4,9 +4,9 @@
 ghost use Rattle.std.specs.Prelude.{◌≡◌, true, false, ℕ, ◌+◌, ◌*◌, ◌≤◌, ◌<◌, length, take, drop, MatchOption};
 ghost use Rattle.lists.specs.Lists.{tab};
 ghost use Rattle.layouts.specs.Words.{word, long};
-ghost use Rattle.layouts.specs.Records.{read_level, codes_known, read_texture, read_of, level_bytes, rest_bytes, record_bytes};
+ghost use Rattle.layouts.specs.Records.{read_level, codes_known, read_texture, read_of, level_bytes, rest_bytes, record_bytes, put_level, put_define, put_parameter};
 
-use levels::{Filter, LEVELS, MinFilter, MipLevel, Record, Texture, Wrap};
+use levels::{Filter, MinFilter, MipLevel, Record, Texture, Wrap};
 use std::array;
 
 // The bytes of a layout.
@@ -52,7 +52,7 @@ fn level_at(b: &[u8; SIZE], i: usize) -> MipLevel
     }
 }
 
-fn levels_at(b: &[u8; SIZE]) -> [MipLevel; LEVELS]
+fn levels_at(b: &[u8; SIZE]) -> [MipLevel; Texture::LEVELS]
     ensures { result ≡ tab 11 (read_level b.now) }
 {
     array::from_fn(|i| level_at(b, i))
@@ -111,7 +111,7 @@ pub fn read_record(b: &[u8]) -> Option<Texture>
 fn is_lone(b: &[u8; SIZE]) -> bool
     ensures { result ≡ true → (k : ℕ) → 0 < k → k < 11 → word b.now (k * 20) ≡ 0 }
 {
-    (1..LEVELS).all(|i| word_at(b, i * 20) == 0)
+    (1..Texture::LEVELS).all(|i| word_at(b, i * 20) == 0)
 }
 
 // A layout that holds a record, told as it stands.
@@ -152,7 +152,7 @@ impl Record for Layout<'_> {
 
     // It reads the one level that is asked for, where a Texture has all eleven read first: patch_level, at its bar of speed, goes by it.
     fn image_level(self, k: usize) -> MipLevel {
-        if LEVELS <= k {
+        if Texture::LEVELS <= k {
             return MipLevel::ABSENT;
         }
         let m = level_at(self.bytes, k);
@@ -194,4 +194,34 @@ pub fn write_record(b: &mut [u8], texture: Texture)
         texture::copy_in(b, i * 20, &level_bytes(*m));
     }
     texture::copy_in(b, 220, &rest_bytes(texture));
+}
+
+// Puts a define of level k into a layout, where `texture` is the record that it leaves: the levels that do not stay, and the top level.
+pub fn put_define(b: &mut [u8], k: usize, texture: Texture)
+    requires { length b.old ≡ 244 }
+    ensures { b.new ≡ put_define k texture b.old }
+{
+    for (i, m) in texture.levels.iter().enumerate() {
+        if !texture::does_stay(k, i) {
+            texture::copy_in(b, i * 20, &level_bytes(*m));
+        }
+    }
+    texture::copy_in(b, 220, &texture.max_mipmap_level.to_le_bytes());
+}
+
+// Puts a parameter's value into a layout: nothing for a name without effect.
+// Kept: a name is any number, as document 01 has it; texture's own enum for one has no place in a layout. (1m)
+#[tactic(auto, using(std::proofs::lemmas::Bool::Decides::nat_tests), unfolding(crate::specs::Records::put_parameter))]
+pub fn put_parameter(b: &mut [u8], pname: u32, value: u32)
+    requires { length b.old ≡ 244 }
+    ensures { b.new ≡ put_parameter pname value b.old }
+{
+    let at = match pname {
+        consts::GL_TEXTURE_MIN_FILTER => 228,
+        consts::GL_TEXTURE_MAG_FILTER => 232,
+        consts::GL_TEXTURE_WRAP_S => 236,
+        consts::GL_TEXTURE_WRAP_T => 240,
+        _ => return,
+    };
+    texture::copy_in(b, at, &value.to_le_bytes());
 }

@@ -11,7 +11,7 @@ use Rattle.levels.specs.declared.Filter.TheVariants as mag
 use Rattle.levels.specs.declared.Wrap.{Wrap}
 use Rattle.levels.specs.declared.Wrap.TheVariants as wrap
 
--- texture.rs, set_parameter; OpenGL ES 1.1, Texture Minification
+-- texture.rs, set_parameter; OpenGL ES 1.1, Texture Parameters
 unfoldable pub min_filter_of : ℕ → Result MinFilter Refusal
 min_filter_of v =
     cond (eqb v GL_NEAREST) (Ok min.Nearest)
@@ -21,11 +21,11 @@ min_filter_of v =
     (cond (eqb v GL_NEAREST_MIPMAP_LINEAR) (Ok min.NearestMipmapLinear)
     (cond (eqb v GL_LINEAR_MIPMAP_LINEAR) (Ok min.LinearMipmapLinear) (Err Code))))))
 
--- texture.rs, set_parameter; OpenGL ES 1.1, Texture Magnification
+-- texture.rs, set_parameter; OpenGL ES 1.1, Texture Parameters
 unfoldable pub filter_of : ℕ → Result Filter Refusal
 filter_of v = cond (eqb v GL_NEAREST) (Ok mag.Nearest) (cond (eqb v GL_LINEAR) (Ok mag.Linear) (Err Code))
 
--- texture.rs, wrap_from_enum; OpenGL ES 1.1, Texture Wrap Modes
+-- texture.rs, wrap_from_enum; OpenGL ES 1.1, Texture Parameters
 unfoldable pub wrap_of : ℕ → Result Wrap Refusal
 wrap_of v = cond (eqb v GL_REPEAT) (Ok wrap.Repeat) (cond (eqb v GL_CLAMP_TO_EDGE) (Ok wrap.ClampToEdge) (Err Code))
 

@@ -94,7 +94,7 @@ valid_levels n l top = cond (all (fits n) l) (cond (apart l) (eqb top (top_of l)
 unfoldable pub valid_of : ℕ → Texture → Bool
 valid_of n t = valid_levels n (levels_of t.levels) t.max_mipmap_level
 
--- levels in order of place: each with bytes starts at the end of those before it, or later. Such levels are apart (proofs/Ascending)
+-- levels in order of place: each with bytes starts at the end of those before it, or later. Such levels are apart (proofs/Apart)
 unfoldable pub starts_at : ℕ → MipLevel → Bool
 starts_at end m = cond (complete m) (leb end m.place) true
 

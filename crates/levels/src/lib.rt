@@ -9,6 +9,7 @@ ghost use Rattle.levels.specs.declared.Texture.{Texture};
 ghost use Rattle.levels.specs.Levels.{absent, level_of, levels_of, size_of, texels_of, new_texture, complete, half, single, follows, top_of, overlap, overlaps, apart, ascending, fits, valid_levels, valid_of, Fits};
 
 use answers::Refusal;
+use texels::Sides;
 
 #[derive(Clone, Copy, Debug, PartialEq, Eq, Hash)]
 pub enum Filter {
@@ -115,9 +116,6 @@ impl From<Wrap> for u32 {
 
 // ---- the record
 
-// How many levels a texture has, with those that are absent.
-pub const LEVELS: usize = 11;
-
 // `place` is the level's first byte in the store. The fields of an absent level are ignored, and so is level 0's flag.
 // Kept: the C interface hands an absent level's other numbers back as they came, and an Option would lose them. (1e)
 #[derive(Clone, Copy, Debug, PartialEq, Eq, Hash)]
@@ -129,8 +127,8 @@ pub struct MipLevel {
 }
 
 impl MipLevel {
-    // The longest side, in texels.
-    pub const MAX_SIDE: u32 = 1024;
+    // The longest side, in texels: that of any image.
+    pub const MAX_SIDE: u32 = Sides::MAX;
 
     pub const ABSENT: MipLevel = MipLevel {
         present: false,
@@ -142,7 +140,7 @@ impl MipLevel {
 
 #[derive(Clone, Copy, Debug, PartialEq, Eq, Hash)]
 pub struct Texture {
-    pub levels: [MipLevel; LEVELS],
+    pub levels: [MipLevel; Texture::LEVELS],
     pub max_mipmap_level: usize, // Kept: the record of the C interface has any number here; `is_valid` tells. (6e)
     pub min_filter: MinFilter,
     pub mag_filter: Filter,
@@ -151,6 +149,9 @@ pub struct Texture {
 }
 
 impl Texture {
+    // How many levels a texture has, with those that are absent.
+    pub const LEVELS: usize = 11;
+
     // Level 0 is 0 by 0 at place 0.
     // Kept: its callers name it; `Default` would be a second name for the same record, and nothing here takes a `T: Default`. (4m)
     #[tactic(auto, unfolding(crate::specs::Levels::new_texture, crate::specs::Levels::levels_of))]
@@ -158,7 +159,7 @@ impl Texture {
         ensures { result ≡ new_texture }
     {
         Texture {
-            levels: kept_levels([MipLevel::ABSENT; LEVELS]),
+            levels: kept_levels([MipLevel::ABSENT; Texture::LEVELS]),
             max_mipmap_level: 0,
             min_filter: MinFilter::NearestMipmapLinear,
             mag_filter: Filter::Linear,
@@ -170,7 +171,7 @@ impl Texture {
 
 // The levels with level 0's flag set: it is never absent.
 #[tactic(auto, unfolding(crate::specs::Levels::levels_of))]
-pub fn kept_levels(mut levels: [MipLevel; LEVELS]) -> [MipLevel; LEVELS]
+pub fn kept_levels(mut levels: [MipLevel; Texture::LEVELS]) -> [MipLevel; Texture::LEVELS]
     ensures { result ≡ levels_of levels }
 {
     levels[0].present = true;
@@ -228,7 +229,7 @@ fn does_follow(w: u32, h: u32, m: MipLevel) -> bool
 
 // The top level of the chain.
 // Kept: tried as levels.array_windows::<2>().position(..).unwrap_or(LEVELS - 1): `returns`, that this is top_of levels, stays open. (3)
-pub fn calculate_max_complete_mipmap_level(levels: [MipLevel; LEVELS]) -> usize
+pub fn calculate_max_complete_mipmap_level(levels: [MipLevel; Texture::LEVELS]) -> usize
     ensures { result ≡ top_of levels }
 {
     let first = levels[0];
@@ -244,7 +245,7 @@ pub fn calculate_max_complete_mipmap_level(levels: [MipLevel; LEVELS]) -> usize
         width = next.width;
         height = next.height;
     }
-    LEVELS - 1
+    Texture::LEVELS - 1
 }
 
 // ---- validity
@@ -276,7 +277,7 @@ fn do_overlap(a: usize, n: usize, b: usize, m: usize) -> bool
 // Kept: `len` is the store's length in bytes, no count of the levels. (6a)
 #[derive(Clone, Copy, Debug, PartialEq, Eq, Hash)]
 pub struct Stored {
-    pub levels: [MipLevel; LEVELS],
+    pub levels: [MipLevel; Texture::LEVELS],
     pub len: usize,
     ghost fit: { all (fits len) levels ≡ true },
 }
@@ -284,7 +285,7 @@ pub struct Stored {
 impl Stored {
     // The levels as stored, where they all fit.
     // Kept: is_valid's own length, handed on. (6b)
-    fn new(levels: [MipLevel; LEVELS], len: usize) -> Option<Self>
+    fn new(levels: [MipLevel; Texture::LEVELS], len: usize) -> Option<Self>
         ensures { MatchOption result (all (fits len) levels ≡ false) (λ s. (s.levels ≡ levels) × (s.len ≡ len)) }
     {
         if levels.iter().all(|m| does_fit(*m, len)) {

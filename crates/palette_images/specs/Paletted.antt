@@ -1,5 +1,5 @@
 -- Paletted images, over the width b of an index in bits and the kind t of an entry: 2 to the b entries, then the rows of indices.
-use Rattle.std.specs.Prelude.{cond, eqb, Result, Ok, Err, List, [], ◌∷◌, ◌≡◌, ℕ, ◌+◌, ◌-◌, ◌*◌, ◌/◌, ◌%◌, ◌^◌, ◌<◌, get_or}
+use Rattle.std.specs.Prelude.{List, [], ◌∷◌, ◌≡◌, ℕ, ◌+◌, ◌-◌, ◌*◌, ◌/◌, ◌%◌, ◌^◌, ◌<◌, get_or}
 use Rattle.texels.specs.declared.TexelFormat.{TexelFormat}
 use Rattle.texels.specs.Image.{image}
 use Rattle.texels.specs.Texels.{texel_bytes, nth_texel}
@@ -12,11 +12,6 @@ index_bits One = 1
 index_bits Two = 2
 index_bits Four = 4
 index_bits Eight = 8
-
--- which of them a number is
-unfoldable pub bits_of : ℕ → Result IndexBits ℕ
-bits_of n =
-    cond (eqb n 1) (Ok One) (cond (eqb n 2) (Ok Two) (cond (eqb n 4) (Ok Four) (cond (eqb n 8) (Ok Eight) (Err n))))
 
 -- document 01, Corners, for OES_compressed_paletted_texture: a row starts on a whole byte
 abbrev pub row_bytes : ℕ → ℕ → ℕ

@@ -6,7 +6,7 @@ ghost use Rattle.std.proofs.Math.Seq.{paste};
 ghost use Rattle.lists.specs.Lists.{flat};
 ghost use Rattle.texels.specs.Texels.{texel_bytes};
 ghost use Rattle.texels.specs.Lent.{Same};
-ghost use Rattle.palette_images.specs.Paletted.{index_bits, bits_of, row_bytes, palette_bytes, paletted_bytes, index_in, paletted_image, Entries, entry_at, indexed_image};
+ghost use Rattle.palette_images.specs.Paletted.{index_bits, row_bytes, palette_bytes, paletted_bytes, index_in, paletted_image, Entries, entry_at, indexed_image};
 
 use texels::image::Image;
 use texels::*;
@@ -18,25 +18,6 @@ pub enum IndexBits {
     Two,
     Four,
     Eight,
-}
-
-// The width that a number of bits is.
-impl TryFrom<usize> for IndexBits {
-    type Error = usize;
-
-    ghost try_from_gives = { λ n r. r ≡ bits_of n };
-
-    // Kept: a trait has one impl for a type, and each type has its own codes. (2c)
-    #[tactic(auto, using(std::proofs::lemmas::Bool::Decides::nat_tests), unfolding(crate::specs::Paletted::bits_of))]
-    fn try_from(n: usize) -> Result<Self, usize> {
-        Ok(match n {
-            1 => IndexBits::One,
-            2 => IndexBits::Two,
-            4 => IndexBits::Four,
-            8 => IndexBits::Eight,
-            _ => return Err(n),
-        })
-    }
 }
 
 // The bytes of a row of indices.

@@ -3,3 +3,5 @@ pub mod Each
 pub mod Mapped
 pub mod Next
 pub mod Steps
+pub mod Stores
+pub mod Corners

@@ -1,3 +1,4 @@
 pub mod Told
 pub mod Settings
 pub mod Sampling
+pub mod Corners

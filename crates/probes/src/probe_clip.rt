@@ -3,12 +3,13 @@ ghost use Rattle.std.specs.Prelude.{◌≡◌, [], ◌∷◌, ◌≤◌, ◌<◌
 ghost use Rattle.std.specs.Float.{nan};
 ghost use Rattle.std.proofs.lemmas.List.Edits.{sets};
 ghost use Rattle.vertices.specs.Vertex.{plane_at, distance, inside_frustum, lerp};
-ghost use Rattle.polygon.specs.Corners.{vertex_at, corners_of, put_at};
+ghost use Rattle.probes.specs.Corners.{vertex_at, corners_of, put_at};
 ghost use Rattle.clip.specs.Clip.{clipped};
 ghost use Rattle.setup.specs.Setup.{setup_of};
 ghost use Rattle.gradients.specs.Gradients.{derivatives_of, attribute_of};
 ghost use Rattle.probes.specs.Told.{view_from, range_from, box_from, face_of, cull_of, told, told_of, attribute_floats, floats_of, ends_of, corners_from};
 
+use crate::flat_polygon;
 use gradients::PerCorner;
 use replay::numbered::Code;
 use scissor::PixelBox;
@@ -22,7 +23,7 @@ pub extern "C" fn probe_clip_distance(polygon: &[f32], plane: usize) -> f32
     requires { 17 ≤ length polygon.now }
     ensures { result ≡ distance (plane_at plane) (vertex_at polygon.now 0) }
 {
-    polygon::corner(polygon, 0).clip_distance(Plane::from(plane))
+    flat_polygon::corner(polygon, 0).clip_distance(Plane::from(plane))
 }
 
 #[unsafe(no_mangle)]
@@ -30,7 +31,7 @@ pub extern "C" fn probe_inside_frustum(polygon: &[f32]) -> bool
     requires { 17 ≤ length polygon.now }
     ensures { result ≡ inside_frustum (vertex_at polygon.now 0) }
 {
-    polygon::corner(polygon, 0).inside_frustum()
+    flat_polygon::corner(polygon, 0).inside_frustum()
 }
 
 // Corner 2 becomes the vertex at t between corners 0 and 1.
@@ -39,9 +40,9 @@ pub extern "C" fn probe_lerp_vertex(polygon: &mut [f32], t: f32)
     requires { 51 ≤ length polygon.old }
     ensures { polygon.new ≡ put_at polygon.old 2 (lerp t (vertex_at polygon.old 0) (vertex_at polygon.old 1)) }
 {
-    let a = polygon::corner(polygon, 0);
-    let b = polygon::corner(polygon, 1);
-    polygon::put_corner(polygon, 2, a.lerp(&b, t));
+    let a = flat_polygon::corner(polygon, 0);
+    let b = flat_polygon::corner(polygon, 1);
+    flat_polygon::put_corner(polygon, 2, a.lerp(&b, t));
 }
 
 // The first three corners become the polygon that clipping leaves of them.
@@ -51,11 +52,11 @@ pub extern "C" fn probe_clip_triangle(polygon: &mut [f32]) -> usize
     ensures { corners_of result polygon.new ≡ clipped (vertex_at polygon.old 0 ∷ vertex_at polygon.old 1 ∷ vertex_at polygon.old 2 ∷ []) }
 {
     let left = clip::clip_triangle(Triangle {
-        a: polygon::corner(polygon, 0),
-        b: polygon::corner(polygon, 1),
-        c: polygon::corner(polygon, 2),
+        a: flat_polygon::corner(polygon, 0),
+        b: flat_polygon::corner(polygon, 1),
+        c: flat_polygon::corner(polygon, 2),
     });
-    polygon::put_corners(polygon, &left);
+    flat_polygon::put_corners(polygon, &left);
     left.corners().len()
 }
 
@@ -108,9 +109,9 @@ pub extern "C" fn probe_setup(
         y1: ends[3],
     };
     let t = Triangle {
-        a: polygon::corner(polygon, 0),
-        b: polygon::corner(polygon, 1),
-        c: polygon::corner(polygon, 2),
+        a: flat_polygon::corner(polygon, 0),
+        b: flat_polygon::corner(polygon, 1),
+        c: flat_polygon::corner(polygon, 2),
     };
     let cull = Option::from(Code { number: culled });
     let Some(r) = setup::setup_triangle(view, range, front_face, cull, within, t) else {

@@ -63,7 +63,7 @@ pub extern "C" fn probe_is_bounded(x: f32) -> bool
 pub extern "C" fn probe_from_bits(n: u32) -> f32
     ensures { result ≡ Ieee.of_bits binary32 n }
 {
-    floats::from_bits(n)
+    std::num::f32_from_bits_with_nan(n)
 }
 
 #[unsafe(no_mangle)]

@@ -15,7 +15,7 @@ ghost use Rattle.replay.specs.Calls.{IsTallyOfRecord};
 ghost use Rattle.replay.specs.Items.{place_of};
 
 use std::io::{Input, Print, Read};
-use std::{array, fmt};
+use std::{array, fmt, num};
 
 // How many answers were right, how many there were, the bytes read and their checksum.
 #[derive(Clone, Copy, Debug, Default, PartialEq, Eq)]
@@ -171,7 +171,7 @@ pub fn u64_at(b: &[u8], at: usize) -> u64
 pub fn f32_at(b: &[u8], at: usize) -> f32
     ensures { result ≡ Ieee.of_bits binary32 (word32_of b.now at) }
 {
-    floats::from_bits(u32_at(b, at))
+    num::f32_from_bits_with_nan(u32_at(b, at))
 }
 
 // Whether b is the zero a; of any other a too, as same_zero_of has it by reciprocals, where the signs alone would not do.

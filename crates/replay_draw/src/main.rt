@@ -28,9 +28,9 @@ fn drawn(
     if entry.len() < STAGES {
         return None;
     }
-    let units = draw_layouts::read_units(&entry[UNITS..STAGES])?;
-    let state = draw_layouts::read_settings(&entry[SETTINGS..VERTICES])?;
     let stages = draw_layouts::read_stages(stages)?;
+    let units = draw_layouts::read_units(&entry[UNITS..STAGES], stages.used())?;
+    let state = draw_layouts::read_settings(&entry[SETTINGS..VERTICES])?;
     let [a, b, c] = draw_layouts::read_vertices(&entry[VERTICES..UNITS])?;
     let width = replay::u32_at(entry, 0);
     let height = replay::u32_at(entry, 4);

@@ -29,7 +29,7 @@ impl TryFrom<u8> for Kind {
     }
 }
 
-// None where the layout holds no record; it is rewritten where a call that makes a new one is done.
+// None where the layout holds no record; what a call that is done changes in it is put there.
 fn call(
     kind: Kind,
     record: &mut [u8; 244],
@@ -40,12 +40,15 @@ fn call(
     let texture = layouts::read_record(record)?;
     let [a, b, c, d, e]: [u32; 5] = replay::items_at(entry, 1);
     let place = replay::u64_at(entry, 21) as usize;
-    let made = match kind {
-        Kind::Define => texture::define_level(store, texture, a, b, c, place, image),
-        Kind::Patch => return Some(texture::patch_level(store, texture, a, b, c, d, e, image)),
-        Kind::Set => texture::set_parameter(texture, a, b),
-    };
-    Some(made.map(|texture| layouts::write_record(record, texture)))
+    Some(match kind {
+        Kind::Define => texture::define_level(store, texture, a, b, c, place, image).map(
+            |texture| layouts::put_define(record, a as usize, texture),
+        ),
+        Kind::Patch => texture::patch_level(store, texture, a, b, c, d, e, image),
+        Kind::Set => texture::set_parameter(texture, a, b).map(|_| layouts::put_parameter(
+            record, a, b,
+        )),
+    })
 }
 
 // The call on a store and an image of the entry's lengths: its number, and the checksums of what it leaves.

@@ -2,12 +2,16 @@
 #![tactic(auto)]
 
 mod decode;
+mod define;
 mod lines;
+mod samples;
 mod target;
 mod triangles;
 
 fn main(rt: HostRuntime) {
     decode::run(&rt);
+    define::run(&rt);
+    samples::run(&rt);
     target::run(&rt);
     triangles::run(&rt);
 }

@@ -126,33 +126,62 @@ fn undivided_corner(rt: &impl Print) {
     );
 }
 
-// A target of one row with as many colours and depths as its sides ask for. The largest width of a viewport is 4,096.
-fn wide_target<const SIDE: usize, const BYTES: usize>(rt: &impl Print, name: &str)
+// A target of one row, and then of one column, with as many colours and depths as its sides ask for. The largest side of a viewport is 4,096.
+fn long_targets<const SIDE: usize, const BYTES: usize>(rt: &impl Print, row: &str, column: &str)
     requires { (SIDE ≤ 4097) × (BYTES ≤ 16388) }
 {
     let mut colors = [0u8; BYTES];
     let mut depths = [0.0f32; SIDE];
+    let side = SIDE as u32;
+    plain(
+        rt,
+        row,
+        &mut colors,
+        &mut depths,
+        side,
+        1,
+        settings(4096, 1, false),
+        lower_left_half(),
+    );
+    plain(
+        rt,
+        column,
+        &mut colors,
+        &mut depths,
+        1,
+        side,
+        settings(1, 4096, false),
+        lower_left_half(),
+    );
+}
+
+// A viewport that is wider or higher than the target of 2 by 2.
+fn large_viewport(rt: &impl Print, name: &str, width: i32, height: i32) {
+    let mut colors = [0u8; 16];
+    let mut depths = [0.0f32; 4];
     plain(
         rt,
         name,
         &mut colors,
         &mut depths,
-        SIDE as u32,
-        1,
-        settings(4096, 1, false),
+        2,
+        2,
+        settings(width, height, false),
         lower_left_half(),
     );
 }
 
-fn textured(rt: &impl Print, name: &str, store: &[u8], side: u32) {
+// A stage that reads a texture of these sides.
+// Kept: as lines::told (5c)
+fn textured(rt: &impl Print, name: &str, store: &[u8], width: u32, height: u32) {
     let mut colors = [0u8; 16];
     let mut depths = [0.0f32; 4];
     let mut x = Texture::new();
     x.levels[0] = MipLevel {
         present: true,
         place: 0,
-        width: side,
-        height: 1,
+        width,
+        height,
     };
     let units = [x; 4];
     let stages = [stage(); 4];
@@ -172,9 +201,15 @@ fn textured(rt: &impl Print, name: &str, store: &[u8], side: u32) {
 }
 
 fn sides(rt: &impl Print) {
+    large_viewport(rt, "viewport width 4096", 4096, 2);
+    large_viewport(rt, "viewport height 4096", 2, 4096);
+    large_viewport(rt, "viewport width 4097", 4097, 2);
+    large_viewport(rt, "viewport height 4097", 2, 4097);
     let store = [7u8; 4100];
-    textured(rt, "texture side 1024", &store, 1024);
-    textured(rt, "texture side 1025", &store, 1025);
+    textured(rt, "texture width 1024", &store, 1024, 1);
+    textured(rt, "texture height 1024", &store, 1, 1024);
+    textured(rt, "texture width 1025", &store, 1025, 1);
+    textured(rt, "texture height 1025", &store, 1, 1025);
 }
 
 // Kept: its own cases; the others have the name alone (7b)
@@ -182,7 +217,7 @@ pub fn run(rt: &impl Print) {
     two_triangles(rt, false);
     two_triangles(rt, true);
     undivided_corner(rt);
-    wide_target::<4096, 16384>(rt, "target side 4096");
-    wide_target::<4097, 16388>(rt, "target side 4097");
+    long_targets::<4096, 16384>(rt, "target width 4096", "target height 4096");
+    long_targets::<4097, 16388>(rt, "target width 4097", "target height 4097");
     sides(rt);
 }

@@ -1,5 +1,5 @@
 -- The texels of one level or of two, read in a loop, are those that a sample takes. Assumes nothing.
-use Prim.Native.Nat.{ℕ, ◌+◌, ◌≤◌, ◌<◌}
+use Prim.Native.Nat.{ℕ, ◌+◌, ◌-◌, ◌≤◌, ◌<◌}
 use mathlib.Core.Path.{◌≡◌, ap, ◌∙◌}
 use mathlib.Core.List.{List}
 use native.Mathlib.Omega.{arith}
@@ -34,6 +34,12 @@ part_at x a n i h = rw (get_or-take, get_or-drop)
 
 pub part_long : (x : Texture) (a n : ℕ) → a + n ≤ length x.levels → length (take n (drop a x.levels)) ≡ n
 part_long x a n h = simp (length-take, length-drop) (omega arith)
+
+-- and how many they are, for a loop that runs r more turns than one
+pub turns : (x : Texture) (c : Chosen) (r : ℕ) → length x.levels ≡ 11 → x.max_mipmap_level ≤ 10 → Within x.max_mipmap_level c → r ≡ from_bool (is_some c.part)
+    → length (take (c.level + (1 + r) - c.level) (drop c.level x.levels)) ≡ 1 + r
+turns x c r long few w q =
+    part_long x c.level (c.level + (1 + r) - c.level) (omega (arith, q, end_in _ c w, long, few)) ∙ omega arith
 
 -- what a turn of the loop finds
 pub turned : (store : List ℕ) (x : Texture) (f : Filter) (s t : Float) (a n i : ℕ) → i < n → (y : Texel)

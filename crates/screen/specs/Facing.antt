@@ -1,4 +1,4 @@
--- Area, facing and culling of a triangle on the screen: raster.rs, raster_clipped; OpenGL ES 1.1, Polygon Rasterization.
+-- Area, facing and culling of a triangle on the screen: raster.rs, raster_clipped; OpenGL ES 1.1, Basic Polygon Rasterization.
 use Rattle.std.specs.Prelude.{Bool, true, false, cond, not, Float, Option, Some, None}
 use Rattle.std.specs.Float.Ieee as Ieee
 use Rattle.floats.specs.Num.{◌⊖◌, ◌⊗◌, zero32, finite_of}

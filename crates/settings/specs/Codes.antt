@@ -16,7 +16,7 @@ use Rattle.settings.specs.declared.FogMode.TheVariants.{Linear, Exp, Exp2}
 use Rattle.settings.specs.declared.TexEnvMode.{TexEnvMode}
 use Rattle.settings.specs.declared.TexEnvMode.TheVariants.{Modulate, Replace, Decal, Blend, Add}
 
--- OpenGL ES 1.1, Culling
+-- OpenGL ES 1.1, Basic Polygon Rasterization
 unfoldable pub mode_of : ℕ → Result CullMode Refusal
 mode_of v =
     cond (eqb v GL.GL_FRONT) (Ok Front)

@@ -4,7 +4,7 @@ use Rattle.std.specs.Float.Ieee as Ieee
 use Rattle.settings.specs.declared.CompareFunc.{CompareFunc}
 use Rattle.settings.specs.declared.CompareFunc.TheVariants as C
 
--- OpenGL ES 1.1, Alpha Test and Depth Buffer Test: whether the fragment's value passes against the other. A NaN passes Notequal and Always alone.
+-- OpenGL ES 1.1, Alpha Test and Depth Buffer Test: whether lhs passes against rhs. raster.rs, test: a NaN passes Notequal and Always alone.
 abbrev pub test_of : CompareFunc → Float → Float → Bool
 test_of C.Never lhs rhs = false
 test_of C.Less lhs rhs = Ieee.lt lhs rhs

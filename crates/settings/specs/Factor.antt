@@ -14,7 +14,7 @@ one_minus v = record { r = one32 ⊖ v.r; g = one32 ⊖ v.g; b = one32 ⊖ v.b; 
 abbrev pub saturated_of : Float → Float → Rgba
 saturated_of src dst = record { r = min_of src (one32 ⊖ dst); g = min_of src (one32 ⊖ dst); b = min_of src (one32 ⊖ dst); a = one32 }
 
--- OpenGL ES 1.1, Blending: source and destination blending functions
+-- OpenGL ES 1.1, Blending: what each factor is
 abbrev pub resolve_of : BlendFactor → Rgba → Rgba → Rgba
 resolve_of B.Zero src dst = splat_of zero32
 resolve_of B.One src dst = splat_of one32

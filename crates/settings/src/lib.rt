@@ -459,12 +459,16 @@ pub struct PipelineState {
 }
 
 impl PipelineState {
-    // The limits of document 01: a target's side, a scissor's or viewport's number, texture stages.
+    // The limits of document 01: a target's side, a viewport's, a scissor's or viewport's number, texture stages, and the units that they name.
     pub const MAX_TARGET_SIDE: u32 = 4096;
+
+    pub const MAX_VIEWPORT_SIDE: i32 = PipelineState::MAX_TARGET_SIDE as i32;
 
     pub const MAX_WINDOW_NUMBER: i32 = 8192;
 
-    pub const MAX_TEXTURE_STAGES: u32 = 4;
+    pub const MAX_TEXTURE_STAGES: usize = 4;
+
+    pub const MAX_TEXTURE_UNITS: usize = 4;
 
     // Kept: the source has `Default` alone, which calls it; probes and programs start from `new` (4m)
     pub fn new() -> Self

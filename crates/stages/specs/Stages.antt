@@ -1,4 +1,4 @@
--- The texture stages of a fragment, in order: raster.rs, raster_clipped; OpenGL ES 1.1, Texture Environments and Texture Functions.
+-- The texture stages of a fragment, in order: raster.rs, raster_clipped; OpenGL ES 1.1, Texture Application.
 use Rattle.std.specs.Prelude.{ℕ, ◌+◌, ◌*◌, ◌<◌, ◌≤◌, ◌≡◌, true, cond, List, [], get_or, Float}
 use Rattle.std.specs.Float.{nan}
 use Rattle.lists.specs.Lists.{iter, flat}

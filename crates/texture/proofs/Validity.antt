@@ -2,6 +2,7 @@
 use mathlib.Core.Bool.{Bool, true, false, cond}
 use mathlib.Core.Path.{◌≡◌, refl, sym, ap, ◌∙◌}
 use mathlib.Core.List.{List}
+use mathlib.Core.Logic.{◌⊎◌, inl, inr}
 use Prim.Native.Nat.{ℕ, ◌+◌, ◌<◌}
 use native.Mathlib.Decide.{dec_lt}
 use native.Mathlib.Omega.{arith}
@@ -21,6 +22,7 @@ use Rattle.levels.specs.declared.Wrap.{Wrap}
 use Rattle.levels.specs.declared.Texture.{Texture}
 use Rattle.levels.specs.Levels.{absent, level_at, levels_of, level_of, size_of, top_of, overlaps, apart, fits, valid_of}
 use Rattle.levels.proofs.Apart.{apart_at, apart_make, overlaps_none, overlaps_gone, overlaps_sym}
+use Rattle.levels.proofs.Chain.{top_bound}
 use Rattle.levels.proofs.Valid.{fits_at, valid_fits, valid_apart, valid_make, levels_same, fits_end}
 use Rattle.texture.specs.Define.{stays, stay_at, stay, enter_level, define_record, define_check, Outcome, define_of}
 use Rattle.consts.specs.Codes.{GL_TEXTURE_MAG_FILTER, GL_TEXTURE_MIN_FILTER, GL_TEXTURE_WRAP_S, GL_TEXTURE_WRAP_T}
@@ -153,6 +155,29 @@ module _ (t : Texture) (k w h place : ℕ) (i : k < 11) where
       ap (λ (l : List MipLevel). get_or l j absent) record_levels
       ∙ enter_other (levels_of t.levels) k (level_at place w h) i j n
       ∙ stay_at_is (levels_of t.levels) k j q
+
+  -- a level that does not stay is the one defined, or none
+  pub define_puts : (j : ℕ) → j < 11 → stays k j ≡ false
+      → (get_or (define_record t k (level_at place w h)).levels j absent ≡ level_at place w h) ⊎ (get_or (define_record t k (level_at place w h)).levels j absent ≡ absent)
+  unfolding define_record
+  define_puts j q e = here (eqb j k) refl
+    where
+      l : List MipLevel
+      l = levels_of t.levels
+
+      here : (b : Bool) → eqb j k ≡ b
+          → (get_or (enter_level l k (level_at place w h)) j absent ≡ level_at place w h) ⊎ (get_or (enter_level l k (level_at place w h)) j absent ≡ absent)
+      here true p =
+          inl (ap (λ (x : ℕ). get_or (enter_level l k (level_at place w h)) x absent) (eqb-true j k p) ∙ enter_same l k (level_at place w h) i)
+      here false p = inr (enter_other l k (level_at place w h) i j (eqb-false j k p) ∙ stay_at_is l k j q ∙ rw e refl)
+
+  -- and the top level is one of the eleven
+  pub define_top_in : (define_record t k (level_at place w h)).max_mipmap_level < 11
+  unfolding define_record
+  define_top_in =
+      let l : List MipLevel = enter_level (levels_of t.levels) k (level_at place w h) in
+      let n = length_enter (levels_of t.levels) k (level_at place w h) i in
+      omega (arith, n, top_bound l (omega (arith, n)))
 
   -- 01, Corners: the levels above k are dropped for k above 0
   pub define_drops : (j : ℕ) → 0 < k → k < j → j < 11 → level_of (define_record t k (level_at place w h)) j ≡ absent

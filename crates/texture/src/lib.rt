@@ -12,22 +12,25 @@ ghost use Rattle.texture.specs.Patch.{rectangle_check, patch_row, patch_store, p
 ghost use Rattle.texture.specs.Parameters.{parameter_of, setting, set_of};
 
 use answers::Refusal;
-use levels::{Filter, LEVELS, MinFilter, MipLevel, Record, Stored, Texture, Wrap};
+use levels::{Filter, MinFilter, MipLevel, Record, Stored, Texture, Wrap};
 use std::array;
 
+// Whether level i stays where level k is defined.
 #[tactic(auto, using(std::proofs::lemmas::Bool::Decides::nat_tests), unfolding(crate::specs::Define::stays))]
+pub fn does_stay(k: usize, i: usize) -> bool
+    ensures { result ≡ stays k i }
+{
+    i < k || k == 0 && 0 < i
+}
+
 fn stay_at(m: MipLevel, k: usize, i: usize) -> MipLevel
     ensures { result ≡ cond (stays k i) m absent }
 {
-    if i < k || k == 0 && 0 < i {
-        m
-    } else {
-        MipLevel::ABSENT
-    }
+    if does_stay(k, i) { m } else { MipLevel::ABSENT }
 }
 
 // The levels that stay where level k is defined.
-fn staying(levels: [MipLevel; LEVELS], k: usize) -> [MipLevel; LEVELS]
+fn staying(levels: [MipLevel; Texture::LEVELS], k: usize) -> [MipLevel; Texture::LEVELS]
     ensures { result ≡ stay levels k }
 {
     array::from_fn(|i| stay_at(levels[i], k, i))
@@ -48,7 +51,7 @@ impl Entry {
         ensures { MatchResult result (λ e. (enterable k width height ≡ true) × (e.k ≡ k) × (e.m ≡ level_at place width height)) (λ why. (enterable k width height ≡ false) × (why ≡ Refusal.Side)) }
     {
         let k = k as usize;
-        if MipLevel::MAX_SIDE < width || MipLevel::MAX_SIDE < height || LEVELS <= k {
+        if MipLevel::MAX_SIDE < width || MipLevel::MAX_SIDE < height || Texture::LEVELS <= k {
             return Err(Refusal::Side);
         }
         Ok(Entry {
@@ -63,7 +66,7 @@ impl Entry {
     }
 
     // Whether its place in the store is free.
-    fn place_check(self, levels: [MipLevel; LEVELS], store: &[u8]) -> Result<(), Refusal>
+    fn place_check(self, levels: [MipLevel; Texture::LEVELS], store: &[u8]) -> Result<(), Refusal>
         requires { all (fits (length store.now)) levels ≡ true }
         ensures { answer_number result ≡ place_check (length store.now) levels self.k self.m }
     {
@@ -93,7 +96,7 @@ impl Entry {
     }
 
     #[tactic(auto, unfolding(crate::specs::Define::enter_level))]
-    fn put_among(self, levels: [MipLevel; LEVELS]) -> [MipLevel; LEVELS]
+    fn put_among(self, levels: [MipLevel; Texture::LEVELS]) -> [MipLevel; Texture::LEVELS]
         ensures { result ≡ enter_level levels self.k self.m }
     {
         let mut next = staying(levels, self.k);
@@ -220,7 +223,7 @@ pub fn patch_level<R: Record>(
     }
     let k = level as usize;
     let m = texture.image_level(k);
-    if LEVELS <= k || !m.present {
+    if Texture::LEVELS <= k || !m.present {
         return Err(Refusal::Level);
     }
     let area = Rectangle {

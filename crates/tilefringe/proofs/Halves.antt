@@ -21,11 +21,10 @@ use Rattle.draw.specs.Draw.{DrawArgs, Outcome, outcome, drew_all, bound_to, draw
 use Rattle.draw_checks.proofs.Passed.{early_target}
 use Rattle.draw.proofs.Passed.{zero_first}
 use Rattle.draw_reads.proofs.Few.{count_few}
-use Rattle.draw_layouts.specs.Units.{read_units}
 use Rattle.draw_layouts.specs.Settings.{read_settings}
 use Rattle.draw_layouts.specs.Stages.{read_stages}
 use Rattle.draw_layouts.specs.Vertices.{read_vertices}
-use Rattle.tilefringe.specs.DrawCalls.{called, draw_number, refused_by, called_of, args_of, all_known, draw_call}
+use Rattle.tilefringe.specs.DrawCalls.{called, draw_number, refused_by, called_of, args_of, units_of, all_known, draw_call}
 
 -- an answer whose halves are the refusal's number and the count
 abbrev ToldApart : ℕ → Answer → Type 0
@@ -64,17 +63,17 @@ module _ (store : List ℕ) (width height : ℕ) (x : DrawArgs) (units : List Te
 -- over the layouts
 module _ (store : List ℕ) (width height : ℕ) (units settings stages vertices : List ℕ) (cs : List ℕ) (ds : List Float) where
   abbrev known : Bool
-  known = all_known (read_units units) (read_settings settings) (read_stages stages) (read_vertices vertices)
+  known = all_known (units_of (read_stages stages) units) (read_settings settings) (read_stages stages) (read_vertices vertices)
 
   abbrev drew : Outcome
-  drew = draw_of store width height (args_of (read_settings settings) (read_stages stages) (read_vertices vertices)) (unwrap_or (read_units units) []) cs ds
+  drew = draw_of store width height (args_of (read_settings settings) (read_stages stages) (read_vertices vertices)) (unwrap_or (units_of (read_stages stages) units) []) cs ds
 
   pub told_apart : known ≡ true → ToldApart (draw_call store width height units settings stages vertices cs ds).answer drew.answer
   unfolding draw_call
   told_apart e = go known e
     where
       go : (y : Bool) → y ≡ true → ToldApart (cond y (called_of drew) (called (255 * 4294967296) cs ds)).answer drew.answer
-      go true e = draw_told_apart store width height (args_of (read_settings settings) (read_stages stages) (read_vertices vertices)) (unwrap_or (read_units units) []) cs ds
+      go true e = draw_told_apart store width height (args_of (read_settings settings) (read_stages stages) (read_vertices vertices)) (unwrap_or (units_of (read_stages stages) units) []) cs ds
       go false e = absurd (true≢false (sym e))
 
   pub wrong_layout : known ≡ false → (draw_call store width height units settings stages vertices cs ds).answer ≡ 255 * 4294967296

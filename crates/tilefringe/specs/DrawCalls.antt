@@ -11,7 +11,7 @@ use Rattle.draw.specs.Draw.{DrawArgs, draw_args, Outcome, answer_of, draw_of}
 use Rattle.draw_layouts.specs.declared.Stages.{Stages}
 use Rattle.draw_layouts.specs.Units.{read_units}
 use Rattle.draw_layouts.specs.Settings.{read_settings}
-use Rattle.draw_layouts.specs.Stages.{read_stages}
+use Rattle.draw_layouts.specs.Stages.{used, read_stages}
 use Rattle.draw_layouts.specs.Vertices.{read_vertices}
 
 -- an answer, and what is left in the colours and the depths
@@ -52,6 +52,10 @@ args_of s t v =
     draw_args (unwrap_or s default_state) (unwrap_or t no_stages).first (unwrap_or t no_stages).count
     (get_or (unwrap_or v []) 0 new_vertex) (get_or (unwrap_or v []) 1 new_vertex) (get_or (unwrap_or v []) 2 new_vertex)
 
+-- the units' records, of which the stages in use say which are looked at
+abbrev pub units_of : Option Stages → List ℕ → Option (List Texture)
+units_of t units = read_units (used (unwrap_or t no_stages)) units
+
 abbrev pub all_known : Option (List Texture) → Option PipelineState → Option Stages → Option (List Vertex) → Bool
 all_known u s t v = cond (is_some u) (cond (is_some s) (cond (is_some t) (is_some v) false) false) false
 
@@ -62,4 +66,4 @@ draw_read store width height u s t v cs ds =
 
 unfoldable pub draw_call : List ℕ → ℕ → ℕ → List ℕ → List ℕ → List ℕ → List ℕ → List ℕ → List Float → Called
 draw_call store width height units settings stages vertices cs ds =
-    draw_read store width height (read_units units) (read_settings settings) (read_stages stages) (read_vertices vertices) cs ds
+    draw_read store width height (units_of (read_stages stages) units) (read_settings settings) (read_stages stages) (read_vertices vertices) cs ds

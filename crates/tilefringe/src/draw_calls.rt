@@ -18,7 +18,7 @@ fn call_number(answer: Option<Result<usize, Refusal>>) -> u64
     }
 }
 
-// A draw of which no stage is in use reads no record, so none is made of the units' layout.
+// A draw of which no stage is in use reads no record, so nothing but the length of the units' layout is looked at.
 // Kept: colours, depths and sides are parameters of the C interface and of draw, handed on as they come. (5c, 6c)
 fn draw_plain(
     colors: &mut [u8],
@@ -31,7 +31,7 @@ fn draw_plain(
 ) -> Option<Result<usize, Refusal>>
     ensures { called (call_number result) colors.new depths.new ≡ draw_call [] width height units.now settings.now [] vertices.now colors.old depths.old }
 {
-    if !draw_layouts::are_units_known(units) {
+    if units.len() != draw_layouts::UNITS_SIZE {
         return None;
     }
     let state = draw_layouts::read_settings(settings)?;
@@ -53,9 +53,9 @@ fn draw_staged(
 ) -> Option<Result<usize, Refusal>>
     ensures { called (call_number result) colors.new depths.new ≡ draw_call store.now width height units.now settings.now stages.now vertices.now colors.old depths.old }
 {
-    let units = draw_layouts::read_units(units)?;
-    let state = draw_layouts::read_settings(settings)?;
     let stages = draw_layouts::read_stages(stages)?;
+    let units = draw_layouts::read_units(units, stages.used())?;
+    let state = draw_layouts::read_settings(settings)?;
     let [a, b, c] = draw_layouts::read_vertices(vertices)?;
     Some(draw::draw_triangle(
         colors,

@@ -1,8 +1,9 @@
-// The operations on texture objects. A record is lent as its layout, and rewritten where a call is done.
+// The operations on texture objects. A record is lent as its layout, and written where a call is done: its other bytes stay as found.
 ghost use Rattle.std.specs.Prelude.{◌≡◌, [], length};
 ghost use Rattle.answers.specs.Results.{answer_number};
 ghost use Rattle.levels.specs.declared.Texture.{Texture};
 ghost use Rattle.texture.specs.Define.{record_after};
+ghost use Rattle.layouts.specs.Records.{put_define, put_parameter};
 ghost use Rattle.tilefringe.specs.TextureCalls.{lent, written, new_call, define_call, patch_call, set_call};
 
 use crate::WRONG_LAYOUT;
@@ -10,13 +11,29 @@ use answers::Refusal;
 use layouts::Layout;
 use levels::Texture;
 
-// Rewrites the layout with the record that a call has left, where it is done.
-fn write_back(layout: &mut [u8], answer: Result<Texture, Refusal>) -> Result<(), Refusal>
+// Puts a define of level k into the layout, where it is done.
+fn put_defined(layout: &mut [u8], k: u32, answer: Result<Texture, Refusal>) -> Result<(), Refusal>
     requires { length layout.old ≡ 244 }
     ensures number { answer_number result ≡ answer_number answer }
-    ensures layout { (t : Texture) → layout.new ≡ written (answer_number answer) layout.old (record_after t answer) }
+    ensures layout { (t : Texture) → layout.new ≡ written (answer_number answer) layout.old (put_define k (record_after t answer) layout.old) }
 {
-    layouts::write_record(layout, answer?);
+    layouts::put_define(layout, k as usize, answer?);
+    Ok(())
+}
+
+// Puts a setting into the layout, where it is done.
+fn put_set(
+    layout: &mut [u8],
+    pname: u32,
+    value: u32,
+    answer: Result<Texture, Refusal>,
+) -> Result<(), Refusal>
+    requires { length layout.old ≡ 244 }
+    ensures number { answer_number result ≡ answer_number answer }
+    ensures layout { layout.new ≡ written (answer_number answer) layout.old (put_parameter pname value layout.old) }
+{
+    answer?;
+    layouts::put_parameter(layout, pname, value);
     Ok(())
 }
 
@@ -47,7 +64,7 @@ pub extern "C" fn tf_define_level(
         return WRONG_LAYOUT; // Kept: the C interface's answer; a Result would need a twin of each call beside it. (1j)
     };
     let defined = texture::define_level(store, texture, level, width, height, place, rgba);
-    answers::number(write_back(layout, defined))
+    answers::number(put_defined(layout, level, defined))
 }
 
 #[unsafe(no_mangle)]
@@ -63,7 +80,7 @@ pub extern "C" fn tf_patch_level(
 ) -> u32
     ensures { lent result layout.now store.new ≡ patch_call layout.now store.old level xoffset yoffset width height patch.now }
 {
-    // The record is told from the layout as it stands.
+    // The record is told from its layout as it stands.
     let Some(texture) = Layout::new(layout) else {
         return WRONG_LAYOUT; // Kept: the C interface's answer; a Result would need a twin of each call beside it. (1j)
     };
@@ -80,5 +97,5 @@ pub extern "C" fn tf_set_parameter(layout: &mut [u8], pname: u32, value: u32) ->
         return WRONG_LAYOUT; // Kept: the C interface's answer; a Result would need a twin of each call beside it. (1j)
     };
     let set = texture::set_parameter(texture, pname, value);
-    answers::number(write_back(layout, set))
+    answers::number(put_set(layout, pname, value, set))
 }

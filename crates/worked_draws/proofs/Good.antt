@@ -15,9 +15,9 @@ use Rattle.isolation.specs.Machine.{Guest, Moment, In, Own, answer, WritesAt, Re
 use Rattle.isolation.specs.Acts.{Uses}
 use Rattle.frames.specs.State.{Place, byte, texture, is_refused}
 use Rattle.guests.specs.Calls.{Shared}
-use Rattle.guests.specs.Guests.{clear_depth, draw, define_level, patch_level, set_parameter, meaning, InBox, InWindow}
+use Rattle.guests.specs.Guests.{clear_color, clear_depth, draw, define_level, patch_level, set_parameter, new_record, meaning, InBox, InWindow}
 use Rattle.guest_draws.specs.Draw.{DrawCall, names_of, taken_of, drawing, scissor_of}
-use Rattle.guest_draws.specs.SixCalls.{SixCall}
+use Rattle.guest_draws.specs.EveryCall.{GuestCall}
 use Rattle.worked_guests.specs.Worked.{window}
 use Rattle.worked_guests.proofs.Uses.{uses_of}
 use Rattle.worked_draws.specs.Worked.{M}
@@ -25,17 +25,7 @@ use Rattle.std.specs.Prelude as prelude
 use Rattle.settings.specs.declared.ScissorBox.{ScissorBox}
 
 abbrev pub Then : Type 0
-Then = Moment Shared Place SixCall
-
--- every element of a list
-abbrev pub All : {A : Type 0} → (A → Type 0) → List A → Type 0
-All P [] = Unit {0}
-All P (x ∷ l) = P x × All P l
-
-pub each : {A : Type 0} (P : A → Type 0) (l : List A) → All P l → (a : A) → In a l → P a
-each P [] h a m = absurd m
-each P (x ∷ l) (h, r) a (inl e) = subst P (sym e) h
-each P (x ∷ l) (h, r) a (inr m) = each P l r a m
+Then = Moment Shared Place GuestCall
 
 -- ---- texel bytes
 
@@ -57,13 +47,13 @@ all_owned g last (x ∷ l) e b (inr m) = all_owned g last l (and_parts (owned_by
 
 -- guest n writes texture n; texture 3 is only read
 pub record Good (e : Then) : Type 0 where
-  pub box : is_refused (answer M e.turn.call e.before) ≡ false → (p : ℕ) → InBox drawing scissor_of 2 1 e.turn.call p → InWindow window 2 1 e.turn.who p
+  pub box : is_refused (answer M e.turn.call e.before) ≡ false → (p : ℕ) → InBox drawing scissor_of 4 1 e.turn.call p → InWindow window 4 1 e.turn.who p
   pub writer : (n : ℕ) → WritesAt M e (texture n) → (e.turn.who ≡ n) × (n ≢ 3)
   pub user : (n : ℕ) → ReadsAt M e (texture n) ⊎ WritesAt M e (texture n) → (e.turn.who ≡ n) ⊎ (n ≡ 3)
   pub own : (b : ℕ) → ReadsAt M e (byte b) → Own e.turn.who (e.last (byte b))
 
 module _ (g : Guest) (s : Shared) (last : Place → Option Guest) where
-  abbrev pub made : SixCall → Then
+  abbrev pub made : GuestCall → Then
   made c = record { turn = record { who = g; call = c }; before = s; last = last }
 
   -- one of its guest's own texture
@@ -85,8 +75,21 @@ module _ (g : Guest) (s : Shared) (last : Place → Option Guest) where
       name : (n : ℕ) → Uses (meaning drawing scissor_of (set_parameter g code value)) s (texture n) → n ≡ g
       name n u = uses_of drawing scissor_of (λ x m. Unit) (λ x t m v. tt) (set_parameter g code value) s n u
 
+  pub good_new : g ≢ 3 → Good (made (new_record g))
+  good_new d = record { box = λ r p z. absurd z; writer = λ n u. (sym (name n (inr u)), λ z. d (sym (name n (inr u)) ∙ z)); user = λ n u. inl (sym (name n u)); own = λ b r. absurd r }
+    where
+      name : (n : ℕ) → Uses (meaning drawing scissor_of (new_record g)) s (texture n) → n ≡ g
+      name n u = uses_of drawing scissor_of (λ x m. Unit) (λ x t m v. tt) (new_record g) s n u
+
   -- a clear in its guest's window
-  pub good_clear_depth : (b : prelude.Option ScissorBox) (v : Float) → ((p : ℕ) → pixel_in 2 1 b p ≡ true → InWindow window 2 1 g p) → Good (made (clear_depth b v))
+  pub good_clear_color : (b : prelude.Option ScissorBox) (rgba : List ℕ) → ((p : ℕ) → pixel_in 4 1 b p ≡ true → InWindow window 4 1 g p) → Good (made (clear_color b rgba))
+  good_clear_color b rgba f = record { box = λ r. f; writer = λ n w. absurd (true≢false (sym w)); user = user; own = λ a r. absurd r }
+    where
+      user : (n : ℕ) → ReadsAt M (made (clear_color b rgba)) (texture n) ⊎ WritesAt M (made (clear_color b rgba)) (texture n) → (g ≡ n) ⊎ (n ≡ 3)
+      user n (inl r) = absurd r
+      user n (inr w) = absurd (true≢false (sym w))
+
+  pub good_clear_depth : (b : prelude.Option ScissorBox) (v : Float) → ((p : ℕ) → pixel_in 4 1 b p ≡ true → InWindow window 4 1 g p) → Good (made (clear_depth b v))
   good_clear_depth b v f = record { box = λ r. f; writer = λ n w. absurd (true≢false (sym w)); user = user; own = λ a r. absurd r }
     where
       user : (n : ℕ) → ReadsAt M (made (clear_depth b v)) (texture n) ⊎ WritesAt M (made (clear_depth b v)) (texture n) → (g ≡ n) ⊎ (n ≡ 3)
@@ -94,7 +97,7 @@ module _ (g : Guest) (s : Shared) (last : Place → Option Guest) where
       user n (inr w) = absurd (true≢false (sym w))
 
   -- a draw in its guest's window, with textures of its own or texture 3, that takes bytes that nobody or its guest wrote last
-  pub good_draw : (x : DrawCall) → ((p : ℕ) → pixel_in 2 1 (scissor_of x) p ≡ true → InWindow window 2 1 g p)
+  pub good_draw : (x : DrawCall) → ((p : ℕ) → pixel_in 4 1 (scissor_of x) p ≡ true → InWindow window 4 1 g p)
       → ((n : ℕ) → In n (names_of x) → (g ≡ n) ⊎ (n ≡ 3))
       → all (λ b. owned_by g (last (byte b))) (taken_of x s) ≡ true
       → Good (made (draw x))
@@ -110,7 +113,7 @@ module _ (g : Guest) (s : Shared) (last : Place → Option Guest) where
       user n (inr w) = absurd (true≢false (sym w))
 
   -- a refused call that has read texture 3 at most
-  pub good_refused : (c : SixCall) → is_refused (answer M c s) ≡ true → ((n : ℕ) → WritesAt M (made c) (texture n) → ⊥) → ((n : ℕ) → ReadsAt M (made c) (texture n) → n ≡ 3)
+  pub good_refused : (c : GuestCall) → is_refused (answer M c s) ≡ true → ((n : ℕ) → WritesAt M (made c) (texture n) → ⊥) → ((n : ℕ) → ReadsAt M (made c) (texture n) → n ≡ 3)
       → ((b : ℕ) → ReadsAt M (made c) (byte b) → ⊥) → Good (made c)
   good_refused c e w r a = record {
     box = λ z. absurd (true≢false (sym e ∙ z));

@@ -1,7 +1,7 @@
 -- Each premise is needed: without it the claim is false of a short list with a draw that meets the others. Assumes nothing.
 use mathlib.Core.Path.{◌≡◌, refl, sym, ap, ◌∙◌}
 use mathlib.Core.Logic.{◌⊎◌, inl, inr}
-use mathlib.Core.Bool.{true, false}
+use mathlib.Core.Bool.{true}
 use mathlib.Core.List.{List}
 use Prim.Native.Nat.{ℕ}
 use native.Mathlib.Omega.{arith}
@@ -15,21 +15,23 @@ use Rattle.frames.specs.Windows.{machine}
 use Rattle.guests.specs.Calls.{Shared}
 use Rattle.guests.specs.Guests.{meaning, InBox, InWindow, bad_target}
 use Rattle.guest_draws.specs.Draw.{DrawCall, names_of, drawing, scissor_of}
-use Rattle.guest_draws.specs.SixCalls.{SixCall}
+use Rattle.guest_draws.specs.EveryCall.{GuestCall}
 use Rattle.worked_guests.specs.Worked.{window}
 use Rattle.worked_guests.proofs.Worked.{disjoint}
-use Rattle.worked_guests.proofs.Uses.{NamesOf, uses_of}
-use Rattle.worked_draws.specs.Worked.{start}
-use Rattle.worked_draws.specs.Needed.{one_window, overdrawn, out_of_bounds, fought, overwritten, BoxesInside, Textures, Bytes, Refuted, WindowsNeeded, BoxesNeeded, TexturesNeeded, BytesNeeded}
+use Rattle.worked_guests.proofs.Uses.{NamesOf, uses_of, All, each}
+use Rattle.guest_draws.proofs.Demand3.{always}
+use Rattle.worked_draws.specs.Worked.{start, torn}
+use Rattle.worked_draws.specs.Needed.{one_window, overdrawn, out_of_bounds, fought, overwritten, BoxesInside, Textures, Bytes, Refuted, WindowsNeeded, BoxesNeeded, TexturesNeeded, BytesNeeded, NoPremise}
 use Rattle.worked_draws.proofs.Opened.{opened}
-use Rattle.worked_draws.proofs.Good.{Then, All, each}
+use Rattle.worked_draws.proofs.Good.{Then}
+use Rattle.worked_draws.proofs.Worked.{torn_is_bad}
 
-module _ (w : Guest → ScissorBox) (ms : List (Turn SixCall)) where
-  abbrev On : Machine Shared Answer Place SixCall
+module _ (w : Guest → ScissorBox) (ms : List (Turn GuestCall)) where
+  abbrev On : Machine Shared Answer Place GuestCall
   On = machine (meaning drawing scissor_of) (InBox drawing scissor_of) (InWindow w) bad_target
 
   -- boxes in their windows, whatever is refused
-  all_are_inside : All (λ m. (p : ℕ) → InBox drawing scissor_of 2 1 m.call p → InWindow w 2 1 m.who p) ms → BoxesInside w ms
+  all_are_inside : All (λ m. (p : ℕ) → InBox drawing scissor_of 4 1 m.call p → InWindow w 4 1 m.who p) ms → BoxesInside w ms
   all_are_inside h e i r p x = each _ ms h e.turn (moment_turn On ms start (nobody On) e i) p x
 
   -- calls that write no texture
@@ -103,7 +105,7 @@ by_names x s m (inl r) = r.1
 by_names x s m (inr e) = absurd (false≢true e)
 
 -- each guest names one texture, of its own number
-abbrev Names : Turn SixCall → Type 0
+abbrev Names : Turn GuestCall → Type 0
 Names m = (n : ℕ) → NamesOf drawing scissor_of By by_names m.call n → n ≡ m.who
 
 own_names : All Names overwritten
@@ -131,3 +133,19 @@ own_false c = let e : ◌≡◌ {A = ℕ} 9 5 = ap (λ x. x.red) (c.windows 0 0 
 
 pub bytes_needed : BytesNeeded
 bytes_needed = (disjoint, inside_own, textures_own, own_false)
+
+-- ---- what holds all the same
+
+pub no_premise : NoPremise
+no_premise =
+    let a = always window out_of_bounds start in
+    let z = a.sizes_after in
+    record {
+      store_at_each = λ e i. sym (a.sizes_during e i).same_store;
+      width_stays = sym z.same_width;
+      height_stays = sym z.same_height;
+      colors_stay = sym z.same_colors;
+      depths_stay = sym z.same_depths;
+      store_stays = sym z.same_store;
+      whole = (always window out_of_bounds torn).whole torn_is_bad;
+    }

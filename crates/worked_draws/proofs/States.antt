@@ -9,10 +9,11 @@ use lib.Ieee.{Float}
 use Rattle.floats.specs.Num.{zero32, half32, one32}
 use Rattle.levels.specs.declared.Texture.{Texture}
 use Rattle.levels.specs.declared.Filter.TheVariants.{Nearest, Linear}
+use Rattle.levels.specs.Levels.{new_texture}
 use Rattle.isolation.specs.Machine.{Guest, next, nobody, mark}
 use Rattle.frames.specs.State.{Place}
 use Rattle.guests.specs.Calls.{Shared}
-use Rattle.worked_draws.specs.Worked.{M, start, one_texel, defines0, defines1, clears0, clears1, draws0, defines2, hidden0, shares1, shares0, patches1, sets1, draws1, bad_color, bad_depth, bad_stage, bad_vertex, bad_define, bad_patch}
+use Rattle.worked_draws.specs.Worked.{M, start, one_texel, defines0, defines1, clears0, clears1, draws0, defines2, hidden0, shares1, shares0, patches1, sets1, draws1, paints2, renews2, bad_color, bad_depth, bad_stage, bad_vertex, bad_define, bad_patch, bad_repatch}
 use Rattle.worked_draws.proofs.Opened.{opened}
 
 -- the records under their names
@@ -31,42 +32,51 @@ textures4 n = cond (eqb n 1) (one_texel 4 Linear) (textures3 n)
 abbrev textures5 : ℕ → Texture
 textures5 n = cond (eqb n 1) (one_texel 4 Nearest) (textures4 n)
 
-abbrev state : List ℕ → List Float → List ℕ → (ℕ → Texture) → Shared
-state cs ds st f = record { width = 2; height = 1; colors = cs; depths = ds; store = st; textures = f }
+abbrev textures6 : ℕ → Texture
+textures6 n = cond (eqb n 2) new_texture (textures5 n)
+
+abbrev pub state : List ℕ → List Float → List ℕ → (ℕ → Texture) → Shared
+state cs ds st f = record { width = 4; height = 1; colors = cs; depths = ds; store = st; textures = f }
 
 -- what stands after each call that changes something
 abbrev pub s1 : Shared
-s1 = state (0 ∷ 0 ∷ 0 ∷ 0 ∷ 0 ∷ 0 ∷ 0 ∷ 0 ∷ []) (zero32 ∷ zero32 ∷ []) (5 ∷ 6 ∷ 7 ∷ 8 ∷ 0 ∷ 0 ∷ 0 ∷ 0 ∷ 50 ∷ 60 ∷ 70 ∷ 80 ∷ []) textures1
+s1 = state (0 ∷ 0 ∷ 0 ∷ 0 ∷ 0 ∷ 0 ∷ 0 ∷ 0 ∷ 0 ∷ 0 ∷ 0 ∷ 0 ∷ 11 ∷ 12 ∷ 13 ∷ 14 ∷ []) (zero32 ∷ zero32 ∷ zero32 ∷ one32 ∷ []) (5 ∷ 6 ∷ 7 ∷ 8 ∷ 0 ∷ 0 ∷ 0 ∷ 0 ∷ 50 ∷ 60 ∷ 70 ∷ 80 ∷ []) textures1
 
 abbrev pub s2 : Shared
-s2 = state (0 ∷ 0 ∷ 0 ∷ 0 ∷ 0 ∷ 0 ∷ 0 ∷ 0 ∷ []) (zero32 ∷ zero32 ∷ []) (5 ∷ 6 ∷ 7 ∷ 8 ∷ 1 ∷ 2 ∷ 3 ∷ 4 ∷ 50 ∷ 60 ∷ 70 ∷ 80 ∷ []) textures2
+s2 = state (0 ∷ 0 ∷ 0 ∷ 0 ∷ 0 ∷ 0 ∷ 0 ∷ 0 ∷ 0 ∷ 0 ∷ 0 ∷ 0 ∷ 11 ∷ 12 ∷ 13 ∷ 14 ∷ []) (zero32 ∷ zero32 ∷ zero32 ∷ one32 ∷ []) (5 ∷ 6 ∷ 7 ∷ 8 ∷ 1 ∷ 2 ∷ 3 ∷ 4 ∷ 50 ∷ 60 ∷ 70 ∷ 80 ∷ []) textures2
 
 abbrev pub s3 : Shared
-s3 = state (0 ∷ 0 ∷ 0 ∷ 0 ∷ 0 ∷ 0 ∷ 0 ∷ 0 ∷ []) (one32 ∷ zero32 ∷ []) (5 ∷ 6 ∷ 7 ∷ 8 ∷ 1 ∷ 2 ∷ 3 ∷ 4 ∷ 50 ∷ 60 ∷ 70 ∷ 80 ∷ []) textures2
+s3 = state (0 ∷ 0 ∷ 0 ∷ 0 ∷ 0 ∷ 0 ∷ 0 ∷ 0 ∷ 0 ∷ 0 ∷ 0 ∷ 0 ∷ 11 ∷ 12 ∷ 13 ∷ 14 ∷ []) (one32 ∷ zero32 ∷ zero32 ∷ one32 ∷ []) (5 ∷ 6 ∷ 7 ∷ 8 ∷ 1 ∷ 2 ∷ 3 ∷ 4 ∷ 50 ∷ 60 ∷ 70 ∷ 80 ∷ []) textures2
 
 abbrev pub s4 : Shared
-s4 = state (0 ∷ 0 ∷ 0 ∷ 0 ∷ 0 ∷ 0 ∷ 0 ∷ 0 ∷ []) (one32 ∷ one32 ∷ []) (5 ∷ 6 ∷ 7 ∷ 8 ∷ 1 ∷ 2 ∷ 3 ∷ 4 ∷ 50 ∷ 60 ∷ 70 ∷ 80 ∷ []) textures2
+s4 = state (0 ∷ 0 ∷ 0 ∷ 0 ∷ 0 ∷ 0 ∷ 0 ∷ 0 ∷ 0 ∷ 0 ∷ 0 ∷ 0 ∷ 11 ∷ 12 ∷ 13 ∷ 14 ∷ []) (one32 ∷ one32 ∷ zero32 ∷ one32 ∷ []) (5 ∷ 6 ∷ 7 ∷ 8 ∷ 1 ∷ 2 ∷ 3 ∷ 4 ∷ 50 ∷ 60 ∷ 70 ∷ 80 ∷ []) textures2
 
 abbrev pub s5 : Shared
-s5 = state (5 ∷ 6 ∷ 7 ∷ 8 ∷ 0 ∷ 0 ∷ 0 ∷ 0 ∷ []) (half32 ∷ one32 ∷ []) (5 ∷ 6 ∷ 7 ∷ 8 ∷ 1 ∷ 2 ∷ 3 ∷ 4 ∷ 50 ∷ 60 ∷ 70 ∷ 80 ∷ []) textures2
+s5 = state (5 ∷ 6 ∷ 7 ∷ 8 ∷ 0 ∷ 0 ∷ 0 ∷ 0 ∷ 0 ∷ 0 ∷ 0 ∷ 0 ∷ 11 ∷ 12 ∷ 13 ∷ 14 ∷ []) (half32 ∷ one32 ∷ zero32 ∷ one32 ∷ []) (5 ∷ 6 ∷ 7 ∷ 8 ∷ 1 ∷ 2 ∷ 3 ∷ 4 ∷ 50 ∷ 60 ∷ 70 ∷ 80 ∷ []) textures2
 
 abbrev pub s6 : Shared
-s6 = state (5 ∷ 6 ∷ 7 ∷ 8 ∷ 0 ∷ 0 ∷ 0 ∷ 0 ∷ []) (half32 ∷ one32 ∷ []) (9 ∷ 9 ∷ 9 ∷ 9 ∷ 1 ∷ 2 ∷ 3 ∷ 4 ∷ 50 ∷ 60 ∷ 70 ∷ 80 ∷ []) textures3
+s6 = state (5 ∷ 6 ∷ 7 ∷ 8 ∷ 0 ∷ 0 ∷ 0 ∷ 0 ∷ 0 ∷ 0 ∷ 0 ∷ 0 ∷ 11 ∷ 12 ∷ 13 ∷ 14 ∷ []) (half32 ∷ one32 ∷ zero32 ∷ one32 ∷ []) (9 ∷ 9 ∷ 9 ∷ 9 ∷ 1 ∷ 2 ∷ 3 ∷ 4 ∷ 50 ∷ 60 ∷ 70 ∷ 80 ∷ []) textures3
 
 abbrev pub s8 : Shared
-s8 = state (5 ∷ 6 ∷ 7 ∷ 8 ∷ 50 ∷ 60 ∷ 70 ∷ 80 ∷ []) (half32 ∷ half32 ∷ []) (9 ∷ 9 ∷ 9 ∷ 9 ∷ 1 ∷ 2 ∷ 3 ∷ 4 ∷ 50 ∷ 60 ∷ 70 ∷ 80 ∷ []) textures3
+s8 = state (5 ∷ 6 ∷ 7 ∷ 8 ∷ 50 ∷ 60 ∷ 70 ∷ 80 ∷ 0 ∷ 0 ∷ 0 ∷ 0 ∷ 11 ∷ 12 ∷ 13 ∷ 14 ∷ []) (half32 ∷ half32 ∷ zero32 ∷ one32 ∷ []) (9 ∷ 9 ∷ 9 ∷ 9 ∷ 1 ∷ 2 ∷ 3 ∷ 4 ∷ 50 ∷ 60 ∷ 70 ∷ 80 ∷ []) textures3
 
 abbrev pub s9 : Shared
-s9 = state (50 ∷ 60 ∷ 70 ∷ 80 ∷ 50 ∷ 60 ∷ 70 ∷ 80 ∷ []) (zero32 ∷ half32 ∷ []) (9 ∷ 9 ∷ 9 ∷ 9 ∷ 1 ∷ 2 ∷ 3 ∷ 4 ∷ 50 ∷ 60 ∷ 70 ∷ 80 ∷ []) textures3
+s9 = state (50 ∷ 60 ∷ 70 ∷ 80 ∷ 50 ∷ 60 ∷ 70 ∷ 80 ∷ 0 ∷ 0 ∷ 0 ∷ 0 ∷ 11 ∷ 12 ∷ 13 ∷ 14 ∷ []) (zero32 ∷ half32 ∷ zero32 ∷ one32 ∷ []) (9 ∷ 9 ∷ 9 ∷ 9 ∷ 1 ∷ 2 ∷ 3 ∷ 4 ∷ 50 ∷ 60 ∷ 70 ∷ 80 ∷ []) textures3
 
 abbrev pub s10 : Shared
-s10 = state (50 ∷ 60 ∷ 70 ∷ 80 ∷ 50 ∷ 60 ∷ 70 ∷ 80 ∷ []) (zero32 ∷ half32 ∷ []) (9 ∷ 9 ∷ 9 ∷ 9 ∷ 4 ∷ 3 ∷ 2 ∷ 1 ∷ 50 ∷ 60 ∷ 70 ∷ 80 ∷ []) textures4
+s10 = state (50 ∷ 60 ∷ 70 ∷ 80 ∷ 50 ∷ 60 ∷ 70 ∷ 80 ∷ 0 ∷ 0 ∷ 0 ∷ 0 ∷ 11 ∷ 12 ∷ 13 ∷ 14 ∷ []) (zero32 ∷ half32 ∷ zero32 ∷ one32 ∷ []) (9 ∷ 9 ∷ 9 ∷ 9 ∷ 4 ∷ 3 ∷ 2 ∷ 1 ∷ 50 ∷ 60 ∷ 70 ∷ 80 ∷ []) textures4
 
 abbrev pub s11 : Shared
-s11 = state (50 ∷ 60 ∷ 70 ∷ 80 ∷ 50 ∷ 60 ∷ 70 ∷ 80 ∷ []) (zero32 ∷ half32 ∷ []) (9 ∷ 9 ∷ 9 ∷ 9 ∷ 4 ∷ 3 ∷ 2 ∷ 1 ∷ 50 ∷ 60 ∷ 70 ∷ 80 ∷ []) textures5
+s11 = state (50 ∷ 60 ∷ 70 ∷ 80 ∷ 50 ∷ 60 ∷ 70 ∷ 80 ∷ 0 ∷ 0 ∷ 0 ∷ 0 ∷ 11 ∷ 12 ∷ 13 ∷ 14 ∷ []) (zero32 ∷ half32 ∷ zero32 ∷ one32 ∷ []) (9 ∷ 9 ∷ 9 ∷ 9 ∷ 4 ∷ 3 ∷ 2 ∷ 1 ∷ 50 ∷ 60 ∷ 70 ∷ 80 ∷ []) textures5
 
 abbrev pub s12 : Shared
-s12 = state (50 ∷ 60 ∷ 70 ∷ 80 ∷ 4 ∷ 3 ∷ 2 ∷ 1 ∷ []) (zero32 ∷ zero32 ∷ []) (9 ∷ 9 ∷ 9 ∷ 9 ∷ 4 ∷ 3 ∷ 2 ∷ 1 ∷ 50 ∷ 60 ∷ 70 ∷ 80 ∷ []) textures5
+s12 = state (50 ∷ 60 ∷ 70 ∷ 80 ∷ 4 ∷ 3 ∷ 2 ∷ 1 ∷ 0 ∷ 0 ∷ 0 ∷ 0 ∷ 11 ∷ 12 ∷ 13 ∷ 14 ∷ []) (zero32 ∷ zero32 ∷ zero32 ∷ one32 ∷ []) (9 ∷ 9 ∷ 9 ∷ 9 ∷ 4 ∷ 3 ∷ 2 ∷ 1 ∷ 50 ∷ 60 ∷ 70 ∷ 80 ∷ []) textures5
+
+abbrev pub s13 : Shared
+s13 = state (50 ∷ 60 ∷ 70 ∷ 80 ∷ 4 ∷ 3 ∷ 2 ∷ 1 ∷ 21 ∷ 22 ∷ 23 ∷ 24 ∷ 11 ∷ 12 ∷ 13 ∷ 14 ∷ []) (zero32 ∷ zero32 ∷ zero32 ∷ one32 ∷ []) (9 ∷ 9 ∷ 9 ∷ 9 ∷ 4 ∷ 3 ∷ 2 ∷ 1 ∷ 50 ∷ 60 ∷ 70 ∷ 80 ∷ []) textures5
+
+abbrev pub s14 : Shared
+s14 = state (50 ∷ 60 ∷ 70 ∷ 80 ∷ 4 ∷ 3 ∷ 2 ∷ 1 ∷ 21 ∷ 22 ∷ 23 ∷ 24 ∷ 11 ∷ 12 ∷ 13 ∷ 14 ∷ []) (zero32 ∷ zero32 ∷ zero32 ∷ one32 ∷ []) (9 ∷ 9 ∷ 9 ∷ 9 ∷ 4 ∷ 3 ∷ 2 ∷ 1 ∷ 50 ∷ 60 ∷ 70 ∷ 80 ∷ []) textures6
 
 pub defines0_leaves : next M defines0.call start ≡ s1
 unfolding opened
@@ -116,28 +126,39 @@ pub draws1_leaves : next M draws1.call s11 ≡ s12
 unfolding opened
 draws1_leaves = refl
 
-pub bad_color_leaves : next M bad_color.call s12 ≡ s12
+pub paints2_leaves : next M paints2.call s12 ≡ s13
+unfolding opened
+paints2_leaves = refl
+
+pub renews2_leaves : next M renews2.call s13 ≡ s14
+unfolding opened
+renews2_leaves = refl
+
+pub bad_color_leaves : next M bad_color.call s14 ≡ s14
 unfolding opened
 bad_color_leaves = refl
 
-pub bad_depth_leaves : next M bad_depth.call s12 ≡ s12
+pub bad_depth_leaves : next M bad_depth.call s14 ≡ s14
 unfolding opened
 bad_depth_leaves = refl
 
-pub bad_stage_leaves : next M bad_stage.call s12 ≡ s12
+pub bad_stage_leaves : next M bad_stage.call s14 ≡ s14
 unfolding opened
 bad_stage_leaves = refl
 
-pub bad_vertex_leaves : next M bad_vertex.call s12 ≡ s12
+pub bad_vertex_leaves : next M bad_vertex.call s14 ≡ s14
 unfolding opened
 bad_vertex_leaves = refl
 
 -- calls that are refused once more
-abbrev pub s13 : Shared
-s13 = next M bad_define.call s12
+abbrev pub s15 : Shared
+s15 = next M bad_define.call s14
 
-abbrev pub s14 : Shared
-s14 = next M bad_patch.call s13
+abbrev pub s16 : Shared
+s16 = next M bad_patch.call s15
+
+abbrev pub s17 : Shared
+s17 = next M bad_repatch.call s16
 
 -- who wrote each place last before each call
 abbrev pub w0 : Place → Option Guest
@@ -180,19 +201,28 @@ abbrev pub w12 : Place → Option Guest
 w12 = mark M draws1 s11 w11
 
 abbrev pub w13 : Place → Option Guest
-w13 = mark M bad_color s12 w12
+w13 = mark M paints2 s12 w12
 
 abbrev pub w14 : Place → Option Guest
-w14 = mark M bad_depth s12 w13
+w14 = mark M renews2 s13 w13
 
 abbrev pub w15 : Place → Option Guest
-w15 = mark M bad_stage s12 w14
+w15 = mark M bad_color s14 w14
 
 abbrev pub w16 : Place → Option Guest
-w16 = mark M bad_vertex s12 w15
+w16 = mark M bad_depth s14 w15
 
 abbrev pub w17 : Place → Option Guest
-w17 = mark M bad_define s12 w16
+w17 = mark M bad_stage s14 w16
 
 abbrev pub w18 : Place → Option Guest
-w18 = mark M bad_patch s13 w17
+w18 = mark M bad_vertex s14 w17
+
+abbrev pub w19 : Place → Option Guest
+w19 = mark M bad_define s14 w18
+
+abbrev pub w20 : Place → Option Guest
+w20 = mark M bad_patch s15 w19
+
+abbrev pub w21 : Place → Option Guest
+w21 = mark M bad_repatch s16 w20

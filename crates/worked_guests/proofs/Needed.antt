@@ -28,7 +28,7 @@ module _ (w : Guest → ScissorBox) (ms : List (Turn (Call ⊥))) where
   no_textures h e f i j ne n x u = h e.turn (moment_turn M ms start (nobody M) e i) n (uses_named e.turn.call e.before n (inr x))
 
   -- a list whose boxes are in their windows, whatever is refused
-  all_are_inside : ((m : Turn (Call ⊥)) → In m ms → (p : ℕ) → InBox no_drawing no_scissor 2 1 m.call p → InWindow w 2 1 m.who p) → BoxesInside w ms
+  all_are_inside : ((m : Turn (Call ⊥)) → In m ms → (p : ℕ) → InBox no_drawing no_scissor 4 1 m.call p → InWindow w 4 1 m.who p) → BoxesInside w ms
   all_are_inside h e i r p x = h e.turn (moment_turn M ms start (nobody M) e i) p x
 
 -- ---- windows that share a pixel
@@ -42,7 +42,7 @@ unnamed_over m (inr (inl q)) = subst Unnamed (sym q) (λ n x. x)
 unnamed_over m (inr (inr i)) = absurd i
 
 abbrev Within₁ : Turn (Call ⊥) → Type 0
-Within₁ m = (p : ℕ) → InBox no_drawing no_scissor 2 1 m.call p → InWindow one_window 2 1 m.who p
+Within₁ m = (p : ℕ) → InBox no_drawing no_scissor 4 1 m.call p → InWindow one_window 4 1 m.who p
 
 inside_over : (m : Turn (Call ⊥)) → In m overdrawn → Within₁ m
 inside_over m (inl q) = subst Within₁ (sym q) (λ p x. x)
@@ -73,7 +73,7 @@ boxes_needed = (disjoint, no_textures window out_of_bounds unnamed_out, bytes wi
 -- ---- a texture that another guest writes
 
 abbrev Boxless : Turn (Call ⊥) → Type 0
-Boxless m = (p : ℕ) → InBox no_drawing no_scissor 2 1 m.call p → InWindow window 2 1 m.who p
+Boxless m = (p : ℕ) → InBox no_drawing no_scissor 4 1 m.call p → InWindow window 4 1 m.who p
 
 inside_fought : (m : Turn (Call ⊥)) → In m fought → Boxless m
 inside_fought m (inl q) = subst Boxless (sym q) (λ p x. absurd x)

@@ -1,2 +1,2 @@
-// A worked list of calls by two guests, and lists that break a premise. All of it is in specs/ and proofs/.
+// A worked list of calls by three guests, and lists that break a premise. All of it is in specs/ and proofs/.
 #![tactic(auto)]

@@ -1,4 +1,4 @@
-use mathlib.Core.Path.{refl, sym, ◌≡◌, ◌∙◌}
+use mathlib.Core.Path.{refl, sym, ◌∙◌}
 use Rattle.std.proofs.lemmas.Result.{err_from_is_err_and}
 use Rattle.lists.proofs.Choice.{yes, no}
 use Rattle.scissor.proofs.Outcome.{check_passed, check_refused}

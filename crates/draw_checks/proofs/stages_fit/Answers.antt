@@ -13,12 +13,12 @@ slice_bounds-stages-end c =
     let n : length c.args.stages ≡ 4 = search rules in
     omega arith
 
-pub returns-then-count : goal.returns-then-count
+pub returns-then-count-le-MAX_TEXTURE_STAGES : goal.returns-then-count-le-MAX_TEXTURE_STAGES
 unfolding stages_fit
-returns-then-count c =
+returns-then-count-le-MAX_TEXTURE_STAGES c =
     let each : c.all.result ≡ list_all stage_fits (take c.args.count c.args.stages) = all_from_yields_List stage_fits _ _ _ c.all.ensures.ran (YieldsList-from_slice (take c.args.count c.args.stages) cc) (λ x b q k. search rules) in
-    yes _ (le-leb c.args.count 4 c.if-count.true) (each ∙ below_take stage_fits c.args.stages _ c.args.count (search rules))
+    yes _ (le-leb c.args.count 4 c.if-count-le-MAX_TEXTURE_STAGES.true) (each ∙ below_take stage_fits c.args.stages _ c.args.count (search rules))
 
-pub returns-else-count : goal.returns-else-count
+pub returns-else-count-le-MAX_TEXTURE_STAGES : goal.returns-else-count-le-MAX_TEXTURE_STAGES
 unfolding stages_fit
-returns-else-count c = no _ (lt-leb c.args.count 4 c.if-count.false) (lt-leb c.args.count 4 c.if-count.false)
+returns-else-count-le-MAX_TEXTURE_STAGES c = no _ (lt-leb c.args.count 4 c.if-count-le-MAX_TEXTURE_STAGES.false) (lt-leb c.args.count 4 c.if-count-le-MAX_TEXTURE_STAGES.false)

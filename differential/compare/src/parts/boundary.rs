@@ -5,7 +5,7 @@
 mod inputs;
 
 use self::inputs::*;
-use super::draw::reading::{is_call, RECORD_CODES};
+use super::draw::reading::{is_call, top_level, RECORD_CODES};
 use crate::floats::specials;
 use crate::{Ctx, Part, Rng, Tally};
 use ::port::boundary::*;
@@ -118,25 +118,8 @@ fn may_write<'a>(call: &'a Call, name: &str) -> Box<dyn Fn(usize) -> bool + 'a> 
             let end = place + 4 * number("width") * number("height");
             Box::new(move |at| (place..end).contains(&(at as u64)))
         }
-        // Its level, those that it drops, the others' switches, and the top level.
-        (DEFINE, "record") => {
-            let defined = number("level") as usize;
-            Box::new(move |at| match at / 20 {
-                level @ 0..=10 => level == defined || (level > defined && defined > 0) || at % 20 < 4,
-                _ => at < 228,
-            })
-        }
-        // The levels' switches, and the parameter.
-        (SET_PARAMETER, "record") => {
-            let parameter = match number("pname") {
-                0x2801 => 228..232,
-                0x2800 => 232..236,
-                0x2802 => 236..240,
-                0x2803 => 240..244,
-                _ => 0..0,
-            };
-            Box::new(move |at| (at < 220 && at % 20 < 4) || parameter.contains(&at))
-        }
+        // Held to `record_after`, byte for byte.
+        (DEFINE | SET_PARAMETER, "record") => Box::new(|_| true),
         (PATCH, "store") => {
             let level = &call.bytes("record")[20 * number("level") as usize..];
             let (width, place) = (u64::from(word(level, 4)).max(1), u64::from(word(level, 12)) + (u64::from(word(level, 16)) << 32));
@@ -154,6 +137,34 @@ fn may_write<'a>(call: &'a Call, name: &str) -> Box<dyn Fn(usize) -> bool + 'a> 
         }
         _ => Box::new(|_| false),
     }
+}
+
+/// The record as a define or a setting that is done leaves it: a define's level, those that it drops, and the top level are written; of a
+/// setting the parameter; each other byte is as found, the levels' switches too.
+fn record_after(call: &Call) -> Vec<u8> {
+    let mut record = call.bytes("record").to_vec();
+    let mut put = |at: usize, bytes: &[u8]| record[at..at + bytes.len()].copy_from_slice(bytes);
+    if call.function == SET_PARAMETER {
+        let value = (call.number("value") as u32).to_le_bytes();
+        match call.number("pname") {
+            0x2801 => put(228, &value),
+            0x2800 => put(232, &value),
+            0x2802 => put(236, &value),
+            0x2803 => put(240, &value),
+            _ => {}
+        }
+        return record;
+    }
+    let [k, width, height] = ["level", "width", "height"].map(|name| call.number(name) as u32);
+    let k = k as usize;
+    put(20 * k, &[1, width, height].map(u32::to_le_bytes).concat());
+    put(20 * k + 12, &call.number("place").to_le_bytes());
+    if k > 0 {
+        put(20 * k + 20, &vec![0; 20 * (10 - k)]);
+    }
+    let top = top_level(&record_of(&record));
+    record[220..228].copy_from_slice(&top.to_le_bytes());
+    record
 }
 
 // ---- one call
@@ -197,13 +208,19 @@ fn checked(lender: &mut Lender, call: &Call) -> ((u32, u64), Option<String>) {
         let before = &slice.bytes[..];
         let after = match after[i] {
             _ if matches!(slice.at, At::In(_)) => continue,
-            Some(after) if after == before => continue,
+            Some(after) if after == before && *name != "record" => continue,
             Some(after) => after,
             None => {
                 tell(format!("{name}: a byte beside it is written"));
                 continue;
             }
         };
+        if !refused && *name == "record" && matches!(call.function, DEFINE | SET_PARAMETER) {
+            let wanted = record_after(call);
+            if let Some(at) = (0..244).find(|&at| after[at] != wanted[at]) {
+                tell(format!("record: byte {at} was {}, is {} and not {}", before[at], after[at], wanted[at]));
+            }
+        }
         let may = if refused { Box::new(|_| false) } else { may_write(call, name) };
         for at in (0..before.len()).filter(|&at| before[at] != after[at]) {
             changed += 1;
@@ -237,6 +254,36 @@ fn largest(tally: &mut Tally, rng: &mut Rng) {
             }
         }
     }
+}
+
+/// Records whose levels have each switch, and calls on them: each byte of a record is held to `record_after`.
+fn switches(tally: &mut Tally, rng: &mut Rng) {
+    LENDER.with_borrow_mut(|lender| {
+        for call in switched_calls(rng) {
+            tally.cases += 1;
+            let ((number, _), wrong) = checked(lender, &call);
+            tally.count(if number == 0 { "calls that are done on a record of switches past 1" } else { "refused calls on a record of switches past 1" });
+            if let Some(words) = wrong {
+                tally.difference(format!("{words}: {call:?}"));
+            }
+        }
+    });
+}
+
+/// Draws over records of which some hold nothing: those of units that no stage names are not looked at.
+fn named(tally: &mut Tally) {
+    LENDER.with_borrow_mut(|lender| {
+        for (call, wanted) in named_calls() {
+            tally.cases += 1;
+            tally.count(if wanted == 0 { "draws past a record that holds nothing" } else { "draws refused over a record that holds nothing" });
+            let ((number, changed), wrong) = checked(lender, &call);
+            if let Some(words) = wrong {
+                tally.difference(format!("{words}: {call:?}"));
+            } else if number != wanted || (changed == 0) == (wanted == 0) {
+                tally.difference(format!("the number {number}, and not {wanted}, and {changed} bytes changed: {call:?}"));
+            }
+        }
+    });
 }
 
 /// Faults made on purpose are found: a read beside what is lent, and a write of what is only to be read.
@@ -302,6 +349,13 @@ fn run(ctx: &mut Ctx) {
     controls(&mut ctx.tally);
     header(&mut ctx.tally);
     on_crash(crashed);
+    named(&mut ctx.tally);
+    let mut rng = ctx.rng("switches");
+    switches(&mut ctx.tally, &mut rng);
+    ctx.floor("draws past a record that holds nothing", 8);
+    ctx.floor("draws refused over a record that holds nothing", 12);
+    ctx.floor("calls that are done on a record of switches past 1", 2_000);
+    ctx.floor("refused calls on a record of switches past 1", 500);
     let list = specials();
     ctx.spread("calls", ctx.cases, 1 << 8, |tally, rng, range| {
         for _ in range {

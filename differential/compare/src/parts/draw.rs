@@ -416,11 +416,12 @@ fn bend(rng: &mut Rng, input: &Input) -> Bend {
     }
 }
 
-/// Whether the layouts are none of document 01's, and what differs.
+/// Whether the layouts are none of document 01's, and what differs; those of a call of document 01 are held to it as it was before the bend.
 fn check_bent(bent: &Bent) -> (bool, Option<String>) {
     let (input, corners) = (&bent.input, &bent.input.triangles[0]);
     let (before, store) = lent(input);
-    let mut layouts = Layouts::of(&input.units, &input.settings, &input.stages, corners);
+    let whole = Layouts::of(&input.units, &input.settings, &input.stages, corners);
+    let mut layouts = whole.clone();
     {
         let parts = [&mut layouts.units, &mut layouts.settings, &mut layouts.stages, &mut layouts.vertices];
         match bent.bend {
@@ -431,12 +432,17 @@ fn check_bent(bent: &Bent) -> (bool, Option<String>) {
             Bend::Code(which, at, code) => parts[which][at..at + 4].copy_from_slice(&code.to_le_bytes()),
         }
     }
+    let call = |layouts: &Layouts| {
+        let mut port = before.clone();
+        let mut target = Target { colors: &mut port.colors, depths: &mut port.depths, width: input.width, height: input.height };
+        (draw_triangle(&mut target, &store, layouts), port)
+    };
+    let (answer, port) = call(&layouts);
     if is_call(&layouts) {
-        return (false, None);
+        let (wanted, unbent) = call(&whole);
+        let difference = (answer != wanted).then(|| format!("answer {answer:?} with a record that no stage names bent, and {wanted:?} before"));
+        return (false, difference.or_else(|| apart(" with a record that no stage names bent", &unbent, &port)));
     }
-    let mut port = before.clone();
-    let mut target = Target { colors: &mut port.colors, depths: &mut port.depths, width: input.width, height: input.height };
-    let answer = draw_triangle(&mut target, &store, &layouts);
     let difference = (answer != (255, 0)).then(|| format!("answer {answer:?} from the port, and not 255"));
     (true, difference.or_else(|| apart(" after a call that is none", &before, &port)))
 }
@@ -484,9 +490,7 @@ fn run(ctx: &mut Ctx) {
             let wrong = tally.case(&Bent { input, bend }, check_bent, |b| {
                 smaller(&b.input).into_iter().map(|input| Bent { input, ..*b }).collect()
             });
-            if wrong {
-                tally.count("calls with a wrong layout");
-            }
+            tally.count(if wrong { "calls with a wrong layout" } else { "calls with an unknown code in a record that no stage names" });
         }
     });
     worked(ctx);

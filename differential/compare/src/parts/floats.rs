@@ -302,4 +302,19 @@ fn record(record: &mut Record) {
             entry(record, helper.code, [x, 0.0, 0.0], (helper.rust)(x));
         }
     }
+    // About halves, where a rounding to even, a rounding of x + 1/2, or one rounding for a product and its sum gives another number.
+    let near = |x: f32| (-4..=4).map(move |d| f32::from_bits(x.to_bits().wrapping_add_signed(d)));
+    for helper in helpers() {
+        let told_apart = |x: f32| match helper.name {
+            "to_byte" => [x.mul_add(255.0, 0.5) as u8, (x * 255.0).round_ties_even() as u8].iter().any(|&byte| byte != raster::to_byte(x)),
+            "round" | "rounded_byte" => [x.round_ties_even(), (x + 0.5).floor()].iter().any(|&y| y != x.round()),
+            _ => false,
+        };
+        for k in -4..255 {
+            let half = k as f32 + 0.5;
+            for x in near(if helper.name == "to_byte" { half / 255.0 } else { half }).filter(|&x| told_apart(x)) {
+                entry(record, helper.code, [x, 0.0, 0.0], (helper.rust)(x));
+            }
+        }
+    }
 }

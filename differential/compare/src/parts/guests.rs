@@ -1,4 +1,4 @@
-//! Demand 3 at run time: lists of the six calls by forty guests, run on one shared state and by each guest alone
+//! Demand 3 at run time: lists of calls of every kind by forty guests, run on one shared state and by each guest alone
 //! (docs/ISOLATION.md). A plain account of each list says whether it meets the premises and what each call must answer.
 use crate::floats::specials;
 use crate::{same, shrink, Ctx, Part, Rng, Tally};
@@ -38,6 +38,7 @@ enum Op {
     Define { texture: usize, level: u32, width: u32, height: u32, place: usize, image: Vec<u8> },
     Patch { texture: usize, level: u32, rect: [u32; 4], image: Vec<u8> },
     Set { texture: usize, pname: u32, value: u32 },
+    New { texture: usize },
 }
 
 #[derive(Clone, Debug)]
@@ -131,6 +132,7 @@ fn call(state: &mut State, op: &Op) -> (u32, u32) {
         }
         Op::Patch { texture, level, rect, image } => texture::patch_level(&records[*texture], store, *level, *rect, image),
         Op::Set { texture, pname, value } => texture::set_parameter(&mut records[*texture], *pname, *value),
+        Op::New { texture } => texture::new_texture(&mut records[*texture]),
     };
     (number, 0)
 }
@@ -250,19 +252,33 @@ fn smaller(list: &List) -> Vec<List> {
 
 // ---- the run
 
-/// A premise that a control breaks.
+/// How a control breaks a premise.
 #[derive(Clone, Copy, Debug, PartialEq)]
 enum Broken {
     Windows,
     Boxes,
     Textures,
+    Records,
     Bytes,
 }
 
-const CONTROLS: [(Broken, &str); 4] = [
+impl Broken {
+    /// The premise's place among those that hold.
+    fn premise(self) -> usize {
+        match self {
+            Broken::Windows => 0,
+            Broken::Boxes => 1,
+            Broken::Textures | Broken::Records => 2,
+            Broken::Bytes => 3,
+        }
+    }
+}
+
+const CONTROLS: [(Broken, &str); 5] = [
     (Broken::Windows, "two windows share a pixel"),
     (Broken::Boxes, "a box is past its window"),
     (Broken::Textures, "a texture is written by another"),
+    (Broken::Records, "a record is made new by another"),
     (Broken::Bytes, "a byte is overwritten by another"),
 ];
 
@@ -291,7 +307,7 @@ fn control(tally: &mut Tally, list: &List, broken: Broken, name: &str) {
         tally.difference(words);
     }
     let mut others = told.held;
-    let held = std::mem::replace(&mut others[broken as usize], true);
+    let held = std::mem::replace(&mut others[broken.premise()], true);
     if others != [true; 4] {
         tally.difference(format!("a control that breaks another premise than {broken:?}: {:?}", told.held));
     }
@@ -318,8 +334,10 @@ fn run(ctx: &mut Ctx) {
     ctx.floor_share("draws that write pixels", "draws", 50);
     ctx.floor_share("draws that write pixels and read bytes that their guest wrote", "draws that write pixels and read a texture", 25);
     ctx.floor("store bytes that changed hands", 1_000_000);
+    ctx.floor("new records of a defined texture", 5_000);
     for name in [
         "draws that write pixels and read bytes that were another's",
+        "draws that write pixels and read a record made new",
         "textures that nobody writes, read by several",
         "draws with another's texture in a unit that no stage names",
         "refused calls that name another's texture",
@@ -337,6 +355,7 @@ fn run(ctx: &mut Ctx) {
         ("defines", &[0, 8, 9, 10, 11]),
         ("patches", &[0, 8, 11, 12, 13]),
         ("settings", &[0, 16]),
+        ("new records", &[0]),
     ] {
         for n in numbers {
             ctx.floor(&format!("{name} answered {n}"), 1_000);

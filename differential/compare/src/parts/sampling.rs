@@ -655,6 +655,40 @@ fn small_shape(rng: &mut Rng) -> Shape {
     s
 }
 
+/// A texture with the first `levels` of its chain, its filters by their numbers, repeated along s and t.
+const fn repeated(width: u32, height: u32, levels: u32, filters: [u32; 2], seed: u32) -> Shape {
+    Shape { width, height, levels, min: filters[0], mag: filters[1], wrap_s: 0, wrap_t: 0, seed }
+}
+
+/// Samples in which another reading of the Rust's lines gives another texel; they were searched for with a changed copy of it.
+const TOLD_APART: [(Shape, Coordinates); 19] = [
+    // Along y before x.
+    (repeated(15, 7, 4, [1, 1], 3_194_298_829), [0.2666667, 1.5000001, 0.0, 0.0, 0.0, 0.0]),
+    (repeated(5, 6, 3, [1, 1], 1_994_109_127), [-0.4, 1.2142857, 0.0, 0.0, 0.0, 0.0]),
+    (repeated(7, 4, 3, [1, 1], 2_203_452_391), [1.4, -0.5, 0.0, 0.0, 0.0, 0.0]),
+    (repeated(3, 4, 3, [1, 1], 2_425_303_515), [1.5333333, 0.0, 0.0, 0.0, 0.0, 0.0]),
+    // a (1 - w) + b w, and four texels by four products.
+    (repeated(5, 6, 3, [1, 1], 1_994_109_127), [0.06666667, 0.35714287, 0.0, 0.0, 0.0, 0.0]),
+    (repeated(5, 1, 3, [5, 1], 1_768_917_639), [0.2, 0.78571427, 0.44313273, 0.0, 0.0, 0.0]),
+    (repeated(1, 8, 4, [1, 1], 45_918_529), [0.6, -0.5, 0.0, 0.0, 0.0, 0.0]),
+    // A product that is not rounded before its sum.
+    (repeated(5, 1, 3, [1, 1], 2_729_207_135), [-0.06666667, 0.0, 0.0, 0.0, 0.0, 0.0]),
+    (repeated(5, 1, 3, [5, 1], 2_203_554_587), [1.4, -0.2857143, 0.5555851, 0.0, 0.0, 0.0]),
+    (repeated(5, 6, 3, [1, 1], 1_994_109_127), [0.93333334, 0.78571427, 0.0, 0.0, 0.0, 0.0]),
+    // s times the width less a half, rounded once.
+    (repeated(5, 1, 3, [1, 1], 2_729_207_135), [0.46666667, 0.5714286, 0.0, 0.0, 0.0, 0.0]),
+    (repeated(5, 4, 3, [1, 1], 2_829_916_861), [0.46666667, 1.2142857, 0.0, 0.0, 0.0, 0.0]),
+    (repeated(3, 7, 3, [1, 1], 1_700_434_437), [0.26666668, 0.2857143, 0.0, 0.0, 0.0, 0.0]),
+    // Halves between two levels, to even and not away from 0.
+    (repeated(5, 5, 3, [4, 1], 4_028_179_913), [0.55971134, 1.4278042, 0.22490911, 0.0, 0.0, 0.0]),
+    (repeated(5, 1, 3, [5, 1], 2_203_554_587), [0.93333334, 1.0, 0.7482432, 0.0, 0.0, 0.0]),
+    (repeated(2, 4, 3, [5, 1], 3_481_006_749), [0.6, 1.2857143, 1.494514, 0.0, 0.0, 0.0]),
+    // The mix of two levels cut, and not rounded.
+    (repeated(1, 2, 2, [5, 1], 3_454_603_885), [-0.06666667, 1.6428572, 1.9088968, 0.0, 0.0, 0.0]),
+    (repeated(5, 5, 3, [4, 1], 4_028_179_913), [0.4050033, 0.1556263, 0.6197487, 0.0, 0.0, 0.0]),
+    (repeated(8, 2, 4, [4, 1], 774_947_699), [0.2, 0.5714286, 0.6210028, 0.0, 0.0, 0.0]),
+];
+
 /// Every eighth entry has a record that is refused: a top level that is not there, or a store that is a byte short.
 fn record(record: &mut Record) {
     let mut rng = Rng::named(1, "sampling/record", 0);
@@ -674,5 +708,10 @@ fn record(record: &mut Record) {
             let texel = rust_answers(&shape, &store, &[p]).answer.at_levels[0];
             entry(record, numbers, p, 0, texel, &store);
         }
+    }
+    for (shape, p) in TOLD_APART {
+        let store = shape.store();
+        let texel = rust_answers(&shape, &store, &[p]).answer.at_levels[0];
+        entry(record, shape.numbers(), p, 0, texel, &store);
     }
 }

@@ -620,4 +620,14 @@ fn record(record: &mut Record) {
         let left = wanted(&call);
         entry(record, &call, &left);
     }
+    // Interpolated alphas of equal ends under each selector: 0 under 6 and 255 under 7, as of rising ends.
+    for format in [ATC[2], FOUR[1]] {
+        for end in [0, 77, 255] {
+            let selectors = (0..16).fold(0u64, |bits, i| bits | (i % 8) << (3 * i)).to_le_bytes();
+            let data = [&[end, end], &selectors[..6], &[0, 0xf8, 0x1f, 0, 0xe4, 0xe4, 0xe4, 0xe4]].concat();
+            let call = Call { op: Op::Compressed, width: 4, height: 4, format, ty: 0, data, out: 64 };
+            let left = wanted(&call);
+            entry(record, &call, &left);
+        }
+    }
 }

@@ -28,7 +28,8 @@ the bill and the window that it has alone, with a hash of the frame.
   --scale N    writes each pixel N by N, 1 to 8 (1)
   --help       prints this
 
-Exit status: 0 equal, 1 not equal, 2 a bad argument or a file that cannot be written.
+Exit status: 0 equal, 1 not equal, 2 a bad argument, a file that cannot be written, or another floating-point environment than the proofs
+suppose.
 ";
 
 struct Options {
@@ -238,6 +239,10 @@ fn main() -> ExitCode {
             return ExitCode::from(2);
         }
     };
+    if let Err(environment) = tilefringe::float_environment() {
+        eprintln!("panels: {environment}");
+        return ExitCode::from(2);
+    }
     match report(&options, &mut std::io::stdout().lock()) {
         Ok(true) => ExitCode::SUCCESS,
         Ok(false) => ExitCode::FAILURE,

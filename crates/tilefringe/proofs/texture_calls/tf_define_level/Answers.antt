@@ -7,11 +7,11 @@ pub returns-in_default : goal.returns-in_default
 unfolding define_call
 returns-in_default c = rw (sym c.in_default.ensures) refl
 
-pub write_back-requires : goal.write_back-requires
-write_back-requires c = known_length _ (ap is_some (sym c.in-Some.ensures))
+pub put_defined-requires : goal.put_defined-requires
+put_defined-requires c = known_length _ (ap is_some (sym c.in-Some.ensures))
 
 pub returns : goal.returns
 unfolding define_call
 returns c =
-    rw (sym c.in-Some.ensures, c.number.ensures, c.write_back.ensures.number, c.write_back.ensures.layout c.in-Some.texture)
-    (ap (defined c.args.layout.now) c.define_level-defined.ensures)
+    rw (sym c.in-Some.ensures, c.number.ensures, c.put_defined.ensures.number, c.put_defined.ensures.layout c.in-Some.texture)
+    (ap (defined c.args.layout.now c.args.level) c.define_level-defined.ensures)

@@ -7,11 +7,11 @@ pub returns-in_default : goal.returns-in_default
 unfolding set_call
 returns-in_default c = rw (sym c.in_default.ensures) refl
 
-pub write_back-requires : goal.write_back-requires
-write_back-requires c = known_length _ (ap is_some (sym c.in-Some.ensures))
+pub put_set-requires : goal.put_set-requires
+put_set-requires c = known_length _ (ap is_some (sym c.in-Some.ensures))
 
 pub returns : goal.returns
 unfolding set_call
 returns c =
-    rw (sym c.in-Some.ensures, c.number.ensures, c.write_back.ensures.number, c.write_back.ensures.layout c.in-Some.texture)
-    (ap (set c.args.layout.now) c.set_parameter-set.ensures)
+    rw (sym c.in-Some.ensures, c.number.ensures, c.put_set.ensures.number, c.put_set.ensures.layout)
+    (ap (set c.args.layout.now c.args.pname c.args.value) c.set_parameter-set.ensures)

@@ -374,6 +374,74 @@ pub fn largest_calls(rng: &mut Rng) -> Vec<Call> {
     ]
 }
 
+/// The record of a layout.
+pub fn record_of(bytes: &[u8]) -> Record {
+    let long = |at| u64::from(word(bytes, at)) + (u64::from(word(bytes, at + 4)) << 32);
+    let level = |k: usize| Level { kept: word(bytes, 20 * k), width: word(bytes, 20 * k + 4), height: word(bytes, 20 * k + 8), place: long(20 * k + 12) };
+    let [min, mag, wrap_s, wrap_t] = [228, 232, 236, 240].map(|at| word(bytes, at));
+    Record { levels: std::array::from_fn(level), top: long(220), min, mag, wrap_s, wrap_t }
+}
+
+/// For each switch past 1 that a byte can be, in each byte of a level's switch in turn: settings of every name, defines of a level at the
+/// front and in the middle, a define that is refused, and a patch.
+pub fn switched_calls(rng: &mut Rng) -> Vec<Call> {
+    let mut list = Vec::new();
+    for switch in 2..=255u32 {
+        let mut record = Record { levels: Default::default(), top: 3, min: 0x2703, mag: 0x2601, wrap_s: 0x2901, wrap_t: 0x812f };
+        for (k, place) in [(0, 0), (1, 256), (2, 320), (3, 336)] {
+            record.levels[k] = Level { kept: switch << (8 * ((switch + k as u32) % 4)), width: 8 >> k, height: 8 >> k, place };
+        }
+        // A kept level that the chain does not reach.
+        record.levels[6] = Level { kept: switch.wrapping_mul(0x0101_0101), width: 1, height: 1, place: 340 };
+        let store = random_bytes(rng, 344 + 64);
+        for pname in NAMES {
+            let value: u32 = if pname < 0x2802 { 0x2600 } else { 0x812f };
+            list.push(call(SET_PARAMETER, &[u64::from(pname), u64::from(value)], vec![record.bytes()]));
+        }
+        for (level, side, place) in [(0, 4, 344), (0, 8, 0), (2, 2, 344), (2, 2, 320), (10, 1, 344), (3, 1, 0)] {
+            let image = random_bytes(rng, 4 * side as usize * side as usize);
+            list.push(call(DEFINE, &[level, side, side, place], vec![record.bytes(), store.clone(), image]));
+        }
+        list.push(call(PATCH, &[1, 1, 2, 2, 1], vec![record.bytes(), store.clone(), random_bytes(rng, 8)]));
+    }
+    list
+}
+
+/// Draws on a target of 2 by 2 over units of which some are 244 zero bytes, no record, and the number that each is to answer: no stage;
+/// a stage that names unit u, whose record stands among three that hold nothing, and one that holds nothing among three that do; stages
+/// past the fourth, and a unit above 3.
+pub fn named_calls() -> Vec<(Call, u32)> {
+    let mut held = Record { levels: Default::default(), top: 0, min: 0x2600, mag: 0x2600, wrap_s: 0x2901, wrap_t: 0x2901 };
+    held.levels[0] = Level { kept: 1, width: 1, height: 1, place: 0 };
+    let settings = Settings { viewport: (0, 0, 2, 2), ..Settings::default() };
+    let corners = [[-1.0, -1.0], [3.0, -1.0], [-1.0, 3.0]].map(|[x, y]| {
+        let mut corner = [0.5; 17];
+        (corner[0], corner[1], corner[2], corner[3]) = (x, y, 0.0, 1.0);
+        corner
+    });
+    let draw = |named: &[u32], holds: &dyn Fn(usize) -> bool| {
+        let stages: Vec<Stage> = named.iter().map(|&unit| Stage { unit, env: 0x1e01, env_color: [0.0; 4] }).collect();
+        let mut layouts = Layouts::of(&std::array::from_fn(|_| held.clone()), &settings, &stages, &corners);
+        (0..4).filter(|&u| !holds(u)).for_each(|u| layouts.units[244 * u..244 * u + 244].fill(0));
+        let depths = 1f32.to_bits().to_le_bytes().repeat(4);
+        let Layouts { units, settings, stages, vertices } = layouts;
+        call(DRAW, &[2, 2], vec![vec![9; 16], depths, vec![7; 4], units, settings, stages, vertices])
+    };
+    let mut list = vec![(draw(&[], &|_| false), 0), (draw(&[0, 1, 2, 3], &|_| false), 255)];
+    for u in 0..4 {
+        list.push((draw(&[u], &|other| other == u as usize), 0));
+        list.push((draw(&[u], &|other| other != u as usize), 255));
+        list.push((draw(&[u, (u + 1) % 4], &|other| other == u as usize), 255));
+        list.push((draw(&[u, u, u, u], &|other| other == u as usize), 0));
+        // The fifth stage is not read, and the call is refused for it.
+        list.push((draw(&[u, u, u, u, (u + 1) % 4], &|other| other == u as usize), 6));
+    }
+    for unit in [4, u32::MAX] {
+        list.push((draw(&[unit], &|_| false), 6));
+    }
+    list
+}
+
 fn plain_codes(rng: &mut Rng) -> [u32; 2] {
     [rng.pick(&FORMATS), if rng.bool() { 0x1401 } else { rng.pick(&PACKED) }]
 }

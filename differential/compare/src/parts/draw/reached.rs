@@ -270,6 +270,7 @@ pub fn floors(ctx: &mut Ctx) {
         "calls with the Rust's samples that must be equal",
         "calls with the Rust's samples of another level of detail",
         "calls with a wrong layout",
+        "calls with an unknown code in a record that no stage names",
     ] {
         ctx.floor(name, 1000);
     }

@@ -91,13 +91,18 @@ fn known(bytes: &[u8], at: usize, codes: &[u32]) -> bool {
     codes.contains(&u32::from_le_bytes([bytes[at], bytes[at + 1], bytes[at + 2], bytes[at + 3]]))
 }
 
+/// Whether one of the stages in use, of which the first four are read, names the unit, so that its record is looked at.
+pub fn is_named(stages: &[u8], unit: usize) -> bool {
+    stages.chunks_exact(24).take(4).any(|stage| stage[..4] == (unit as u32).to_le_bytes())
+}
+
 /// Whether the layouts are a call of document 01: their lengths and every code that is read.
 pub fn is_call(layouts: &Layouts) -> bool {
     let Layouts { units, settings, stages, vertices } = layouts;
     if units.len() != 976 || settings.len() != 144 || stages.len() % 24 != 0 || vertices.len() != 204 {
         return false;
     }
-    (0..4).all(|u| RECORD_CODES.iter().all(|&(at, codes)| known(units, 244 * u + at, codes)))
+    (0..4).all(|u| !is_named(stages, u) || RECORD_CODES.iter().all(|&(at, codes)| known(units, 244 * u + at, codes)))
         && SETTINGS_CODES.iter().all(|&(at, codes)| known(settings, at, codes))
         && (0..(stages.len() / 24).min(4)).all(|i| known(stages, 24 * i + 4, &ENVIRONMENT))
 }

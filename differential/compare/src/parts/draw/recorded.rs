@@ -130,6 +130,92 @@ fn limits() -> Vec<Input> {
     list
 }
 
+// ---- calls that tell readings apart
+
+/// Each comparison of the depth, and of the alpha, at equality, below it and above it; a triangle about a pixel's centre of a far smaller
+/// area than 1e-6, which is drawn; spans of the fog about 1e-9, below which there is no fog.
+fn corner_cases() -> Vec<Input> {
+    let mut list = Vec::new();
+    let mut add = |change: &dyn Fn(&mut Input)| {
+        let mut input = plain();
+        input.stages.clear();
+        input.settings.smooth_shading = false;
+        change(&mut input);
+        list.push(input);
+    };
+    for code in 0x200..=0x207 {
+        for x in [0.5, 0.25, 0.75] {
+            add(&|input| {
+                (input.settings.depth_test, input.settings.depth_func, input.start) = (true, code, Depths::All(x));
+            });
+            add(&|input| {
+                (input.settings.alpha_test, input.settings.alpha_func, input.settings.alpha_ref) = (true, code, x);
+            });
+        }
+    }
+    for (dx, dy) in [(1e-4, 1e-4), (2e-4, 1e-5), (1e-5, 2e-4)] {
+        add(&|input| {
+            for (corner, [x, y]) in input.triangles[0].iter_mut().zip([[-dx, -dy], [2.0 * dx, -dy], [-dx, 2.0 * dy]]) {
+                (corner[0], corner[1]) = (x - 0.5, y - 0.5);
+            }
+        });
+    }
+    for span in [0.0, 1e-10, -1e-10, 9.9e-10, -9.9e-10, 1e-9, -1e-9, 1.1e-9, -1.1e-9] {
+        add(&|input| {
+            (input.settings.fog, input.settings.fog_mode, input.settings.fog_end) = (true, 0x2601, span);
+            input.settings.fog_color = [1.0, 0.0, 1.0, 0.0];
+        });
+    }
+    list
+}
+
+/// A triangle in perspective over much of a target of 16 by 16: smooth colours, a texture of three levels, fog and a blend by turns.
+fn spread(k: u64) -> Input {
+    let mut rng = Rng::named(1, "draw/spread", k);
+    let mut input = plain();
+    (input.width, input.height, input.colors, input.depths, input.seed) = (16, 16, 1024, 256, k);
+    (input.settings.viewport, input.settings.scissor) = ((0, 0, 16, 16), (0, 0, 16, 16));
+    let most = rng.pick(&[1.5, 6.0, 24.0]);
+    for (corner, [x, y]) in input.triangles[0].iter_mut().zip([[-0.9, -0.9], [0.9, -0.7], [-0.1, 0.9]]) {
+        *corner = std::array::from_fn(|i| if i < 8 { rng.unit() } else { rng.float(-0.5, most) });
+        let w = rng.float(0.5, 3.0);
+        (corner[0], corner[1], corner[2], corner[3]) = ((x + rng.float(-0.1, 0.1)) * w, (y + rng.float(-0.1, 0.1)) * w, rng.float(-0.9, 0.9) * w, w);
+    }
+    input.store = 84;
+    let texture = &mut input.units[0];
+    for (k, place) in [(0, 0), (1, 64), (2, 80)] {
+        texture.levels[k] = Level { kept: 1, width: 4 >> k, height: 4 >> k, place };
+    }
+    (texture.top, texture.min) = (2, rng.pick(&[0x2600, 0x2702, 0x2703]));
+    texture.wrap_s = rng.pick(&[0x2901, 0x812f]);
+    if rng.bool() {
+        input.stages.clear();
+    } else {
+        input.stages[0].env = rng.pick(&[0x2100, 0x1e01]);
+    }
+    if rng.chance(1, 3) {
+        (input.settings.fog, input.settings.fog_mode, input.settings.fog_end) = (true, 0x2601, rng.float(0.5, 2.0));
+        input.settings.fog_color = std::array::from_fn(|_| rng.unit());
+    }
+    if rng.chance(1, 3) {
+        (input.settings.blend, input.settings.blend_src, input.settings.blend_dst) = (true, rng.pick(&[1, 0x302, 0x306]), rng.pick(&[1, 0x303, 0x300]));
+    }
+    input
+}
+
+/// Draws of `spread` in which another reading of the Rust's lines gives other bytes; they were searched for with a changed copy of it.
+const TOLD_APART: [u64; 18] = [
+    517, 1854, // a weight below 0 is outside
+    538, 3224, // the interpolated 1/w summed from the right
+    1125, 4610, // a corner's share as w0 * (inv_w * rec)
+    874, 10497, // an attribute's products as w0 * (inv_w * value)
+    2813, 3097, // an attribute over 1/rec, and not times rec
+    40379, 56128, // a gradient as two products less each other
+    4366, 5348, // a byte times 1/255, and not over 255
+    7003, 30123, // fog as c0 + (c - c0) f
+    5127, 14559, // a blend whose last product is not rounded
+];
+
 // ---- the record
 
 /// Whether one triangle is drawn with small textures on a target of sides up to 16 and so many pixels, or of no length at all.
@@ -171,8 +257,11 @@ pub fn record(record: &mut Record) {
             }
             wanting.retain(|_, n| *n > 0);
         } else if full && wanting.is_empty() {
-            return;
+            break;
         }
     }
-    panic!("the record does not reach {wanting:?}");
+    assert!(wanting.is_empty(), "the record does not reach {wanting:?}");
+    for input in corner_cases().into_iter().chain(TOLD_APART.map(spread)) {
+        entry(record, &input);
+    }
 }

@@ -141,6 +141,8 @@ pub struct Account {
     last: Vec<u8>,
     /// The bytes that a guest wrote over another's.
     handed: Vec<bool>,
+    /// The textures that were defined and then made new, and not defined since.
+    pub renewed: Vec<bool>,
     /// The guests that read and that wrote each texture, as bits.
     read: Vec<u64>,
     wrote: Vec<u64>,
@@ -162,6 +164,7 @@ impl Account {
             books: list.books.clone(),
             last: vec![NOBODY; list.store],
             handed: vec![false; list.store],
+            renewed: vec![false; list.books.len()],
             read: vec![0; list.books.len()],
             wrote: vec![0; list.books.len()],
             boxes_held: true,
@@ -258,6 +261,7 @@ impl Account {
             }
             Op::Patch { texture, level, rect, image } => self.patch_number(*texture, *level, *rect, image.len()),
             Op::Set { pname, value, .. } => if set_known(*pname, *value) { 0 } else { 16 },
+            Op::New { .. } => 0,
         }
     }
 
@@ -307,6 +311,7 @@ impl Account {
                     self.wrote[*texture] |= bit;
                     let level_after = Level { kept: true, width: *width, height: *height, place: *place as u64 };
                     self.books[*texture] = self.books[*texture].with(*level as usize, level_after);
+                    self.renewed[*texture] = false;
                     self.write(guest, level_after.bytes());
                 }
             }
@@ -333,6 +338,14 @@ impl Account {
                         _ => {}
                     }
                 }
+            }
+            // It reads nothing, not even the record that it writes over.
+            Op::New { texture } => {
+                self.wrote[*texture] |= bit;
+                let defined = self.books[*texture].levels[0].complete();
+                self.tell("new records of a defined texture", u64::from(defined));
+                self.renewed[*texture] |= defined;
+                self.books[*texture] = Book::new();
             }
         }
         number
@@ -363,6 +376,7 @@ impl Account {
             Op::Define { texture, .. } => ("defines", others(*texture)),
             Op::Patch { texture, .. } => ("patches", others(*texture)),
             Op::Set { texture, .. } => ("settings", others(*texture)),
+            Op::New { texture } => ("new records", others(*texture)),
         };
         self.tell(&format!("{kind} answered {number}"), 1);
         if number != 0 {
@@ -385,9 +399,11 @@ impl Account {
         let wrote = textured.iter().any(|book| all(book, &|b| usize::from(self.last[b]) == *guest));
         let handed = textured.iter().any(|book| all(book, &|b| usize::from(self.last[b]) == *guest && self.handed[b]));
         let some = !textured.is_empty();
+        let renewed = named(draw).iter().any(|&name| self.renewed[name]);
         self.tell("draws that write pixels and read a texture", u64::from(some));
         self.tell("draws that write pixels and read bytes that their guest wrote", u64::from(wrote));
         self.tell("draws that write pixels and read bytes that were another's", u64::from(handed));
+        self.tell("draws that write pixels and read a record made new", u64::from(renewed));
     }
 
     /// Whether each premise holds of the calls entered: windows, boxes, textures, bytes.

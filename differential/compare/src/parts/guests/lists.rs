@@ -226,8 +226,8 @@ impl Maker {
 
     fn draw(&self, rng: &mut Rng, guest: usize) -> Op {
         let mut own = self.readable(guest);
-        if self.broken != Some(Broken::Textures) && rng.chance(7, 8) {
-            own.retain(|&name| self.account.books[name].levels[0].complete());
+        if ![Some(Broken::Textures), Some(Broken::Records)].contains(&self.broken) && rng.chance(7, 8) {
+            own.retain(|&name| self.account.books[name].levels[0].complete() || self.account.renewed[name]);
         }
         let names = std::array::from_fn(|_| if !own.is_empty() && rng.chance(4, 5) { rng.pick(&own) } else { shared_texture(rng) });
         let mut stages: Vec<Stage> = (0..rng.pick(&[0, 0, 1, 1, 1, 1, 1, 2, 2, 3, 4])).map(|_| stage(rng)).collect();
@@ -416,19 +416,31 @@ impl Maker {
         }
     }
 
+    /// A new record of another's texture, a defined one where there is one.
+    fn renew_another(&self, rng: &mut Rng, guest: usize) -> Op {
+        let textures: Vec<usize> = (0..OWN * GUESTS).filter(|name| name / OWN != guest && self.busy.contains(&(name / OWN))).collect();
+        let defined: Vec<usize> = textures.iter().copied().filter(|&name| self.account.books[name].levels[0].complete()).collect();
+        let texture = if !defined.is_empty() { rng.pick(&defined) } else { own_texture(rng, (guest + 1) % GUESTS) };
+        Op::New { texture }
+    }
+
     fn op(&self, rng: &mut Rng, guest: usize) -> Op {
         if self.breaks(rng, Broken::Textures) {
             return self.meddle(rng, guest);
         }
-        match rng.below(20) {
+        if self.breaks(rng, Broken::Records) {
+            return self.renew_another(rng, guest);
+        }
+        match rng.below(22) {
             0 | 1 => Op::ClearColor { rgba: std::array::from_fn(|_| rng.u8()), scissor: self.clear_scissor(rng, guest) },
             2 | 3 => {
                 let value = if rng.chance(1, 8) { rng.pick(&NOT_BOUNDED) } else { rng.float(0.0, 1.25) };
                 Op::ClearDepth { value, scissor: self.clear_scissor(rng, guest) }
             }
-            4..=7 => self.define(rng, guest),
-            8 | 9 => self.patch(rng, guest),
-            10 => self.set(rng, guest),
+            4..=8 => self.define(rng, guest),
+            9 | 10 => self.patch(rng, guest),
+            11 => self.set(rng, guest),
+            12 => Op::New { texture: own_texture(rng, guest) },
             _ => self.draw(rng, guest),
         }
     }

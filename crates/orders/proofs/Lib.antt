@@ -1,0 +1,10 @@
+pub mod Orders
+pub mod Owners
+pub mod Regions
+pub mod Admitted
+pub mod Fair
+pub mod Plans
+pub mod Tests
+pub mod Alone
+pub mod InTurn
+pub mod StartOnly

@@ -1,0 +1,4 @@
+pub mod Orders
+pub mod Plans
+pub mod Tests
+pub mod Alone
