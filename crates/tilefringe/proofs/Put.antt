@@ -62,9 +62,6 @@ module _ (b : List ℕ) (p v : ℕ) (h : p + 4 ≤ length b) where
 -- ---- a setting
 
 module _ (b : List ℕ) (v : ℕ) (long_enough : length b ≡ 244) (known : codes_known b ≡ true) (small : v < 4294967296) where
-  abbrev fits : (p : ℕ) → Type 0
-  fits p = p + 4 ≤ length b
-
   -- a layout of that length and of known codes is read as it stands
   read_as : (b' : List ℕ) (t : Texture) → length b' ≡ length b → codes_known b' ≡ true → read_texture b' ≡ t → read_of b' ≡ Some t
   unfolding read_of

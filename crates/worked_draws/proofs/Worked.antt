@@ -34,13 +34,12 @@ comes = record { answers_0 = refl; answers_1 = refl; answers_2 = refl; bill_0 = 
 
 -- ---- the premises
 
--- what a refused call has not read, or not written
 -- a list of one name
 only : (k n : ℕ) → (n ≡ k) ⊎ ⊥ → n ≡ k
 only k n (inl e) = e
 only k n (inr z) = absurd z
 
-own_name : (g n : ℕ) → (n ≡ g) ⊎ ⊥ → (g ≡ n) ⊎ (n ≡ 3)
+pub own_name : (g n : ℕ) → (n ≡ g) ⊎ ⊥ → (g ≡ n) ⊎ (n ≡ 3)
 own_name g n i = inl (sym (only g n i))
 
 good_defines0 : Good (made 0 start w0 defines0.call)
@@ -122,12 +121,12 @@ unfolding opened
 good_bad_set = good_refused 2 s17 w21 bad_set.call refl (λ n k. absurd (false≢true k)) (λ n r. absurd (false≢true r.1)) (λ b r. absurd r)
 
 -- one call after the other
-then : (m : Turn GuestCall) (ms : List (Turn GuestCall)) (s t : Shared) (w : Place → Option Guest) → next M m.call s ≡ t → Good (made m.who s w m.call)
+pub then : (m : Turn GuestCall) (ms : List (Turn GuestCall)) (s t : Shared) (w : Place → Option Guest) → next M m.call s ≡ t → Good (made m.who s w m.call)
     → All Good (moments M ms t (mark M m s w)) → All Good (moments M (m ∷ ms) s w)
 unfolding moments
 then m ms s t w e g r = (g, subst (λ (u : Shared). All Good (moments M ms u (mark M m s w))) (sym e) r)
 
-none : (s : Shared) (w : Place → Option Guest) → All Good (moments M [] s w)
+pub none : (s : Shared) (w : Place → Option Guest) → All Good (moments M [] s w)
 unfolding moments
 none s w = tt
 
@@ -169,7 +168,7 @@ module _ (cs : List ℕ) (ds : List Float) (st : List ℕ) (f : ℕ → Texture)
       go (inl o) = ne (((good a i).writer n w).0 ∙ sym o)
       go (inr z) = ((good a i).writer n w).1 z
 
-  premises : GuestPremises drawing scissor_of window ms (state cs ds st f)
+  pub premises : GuestPremises drawing scissor_of window ms (state cs ds st f)
   premises = record { disjoint = disjoint; inside = λ e i. (good e i).box; textures = textures; bytes = λ e i b r. (good e i).own b r }
 
 -- all premises, and so the claim

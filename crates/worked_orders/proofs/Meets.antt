@@ -1,7 +1,6 @@
 -- Orders that meet the premises: one of calls that leave other colours in another order, so the premises of one list are not enough; and
 -- two that leave different stores. Assumes nothing.
-use mathlib.Core.Path.{◌≡◌, refl, sym, ap, ◌∙◌, subst}
-use mathlib.Core.Logic.{◌⊎◌, inl, inr, ◌≢◌}
+use mathlib.Core.Path.{◌≡◌, refl, ap}
 use mathlib.Core.Bool.{cond}
 use mathlib.Core.Option.{Option}
 use mathlib.Core.List.{List, [], ◌∷◌}
@@ -13,19 +12,15 @@ use lib.Ieee.{Float}
 use Rattle.floats.specs.Num.{zero32, one32}
 use Rattle.levels.specs.declared.Texture.{Texture}
 use Rattle.levels.specs.declared.Filter.TheVariants.{Linear}
-use Rattle.isolation.specs.Machine.{Guest, Turn, In, next, nobody, mark, moments}
+use Rattle.isolation.specs.Machine.{Guest, next, nobody, mark, moments}
 use Rattle.frames.specs.State.{Place}
 use Rattle.guests.specs.Calls.{Shared}
-use Rattle.guests.specs.Guests.{GuestPremises}
-use Rattle.guest_draws.specs.Draw.{drawing, scissor_of}
-use Rattle.guest_draws.specs.EveryCall.{GuestCall}
-use Rattle.worked_guests.specs.Worked.{window}
-use Rattle.worked_guests.proofs.Worked.{disjoint}
-use Rattle.worked_guests.proofs.Uses.{All, each}
+use Rattle.worked_guests.proofs.Uses.{All}
 use Rattle.worked_draws.specs.Worked.{M, start, one_texel}
 use Rattle.worked_draws.proofs.Opened.{opened}
 use Rattle.worked_draws.proofs.States.{state}
-use Rattle.worked_draws.proofs.Good.{Then, Good, made, good_define, good_clear_depth, good_draw}
+use Rattle.worked_draws.proofs.Worked.{own_name, then, none, premises}
+use Rattle.worked_draws.proofs.Good.{Good, made, good_define, good_clear_depth, good_draw}
 use Rattle.worked_orders.specs.Differ.{clears, defines, draws, covers, covered_first, FirstMeets, StoreMayDiffer}
 use Rattle.worked_orders.proofs.Differ.{two}
 
@@ -69,22 +64,9 @@ v2 = mark M clears t1 v1
 abbrev v3 : Place → Option Guest
 v3 = mark M defines t2 v2
 
-own_name : (n : ℕ) → (n ≡ 0) ⊎ ⊥ → (0 ≡ n) ⊎ (n ≡ 3)
-own_name n (inl e) = inl (sym e)
-own_name n (inr z) = absurd z
-
 good_draws : Good (made 0 t3 v3 draws.call)
 unfolding opened
-good_draws = good_draw 0 t3 v3 _ (λ p x. x) own_name refl
-
-then : (m : Turn GuestCall) (ms : List (Turn GuestCall)) (s t : Shared) (w : Place → Option Guest) → next M m.call s ≡ t → Good (made m.who s w m.call)
-    → All Good (moments M ms t (mark M m s w)) → All Good (moments M (m ∷ ms) s w)
-unfolding moments
-then m ms s t w e g r = (g, subst (λ (u : Shared). All Good (moments M ms u (mark M m s w))) (sym e) r)
-
-none : (s : Shared) (w : Place → Option Guest) → All Good (moments M [] s w)
-unfolding moments
-none s w = tt
+good_draws = good_draw 0 t3 v3 _ (λ p x. x) (own_name 0) refl
 
 all_good : All Good (moments M covered_first start (nobody M))
 all_good =
@@ -94,25 +76,8 @@ all_good =
     (then draws _ t3 _ v3 refl good_draws
     (none _ _)))))
 
--- what is good at each moment meets the premises
-module _ (ms : List (Turn GuestCall)) (every : All Good (moments M ms start (nobody M))) where
-  good : (e : Then) → In e (moments M ms start (nobody M)) → Good e
-  good e i = each Good (moments M ms start (nobody M)) every e i
-
-  apart : (e f : Then) → e.turn.who ≢ f.turn.who → (n : ℕ) → (e.turn.who ≡ n) × (n ≢ 3) → (f.turn.who ≡ n) ⊎ (n ≡ 3) → ⊥
-  apart e f ne n w (inl o) = ne (w.0 ∙ sym o)
-  apart e f ne n w (inr z) = w.1 z
-
-  meets : GuestPremises drawing scissor_of window ms start
-  meets = record {
-    disjoint = disjoint;
-    inside = λ e i. (good e i).box;
-    textures = λ e f i j ne n w u. apart e f ne n ((good e i).writer n w) ((good f j).user n u);
-    bytes = λ e i b r. (good e i).own b r;
-  }
-
 pub first_meets : FirstMeets
-first_meets = meets covered_first all_good
+first_meets = premises start.colors start.depths start.store start.textures covered_first all_good
 
 -- ---- levels of two guests over the same bytes
 
@@ -134,7 +99,7 @@ pub store_may_differ : StoreMayDiffer
 unfolding opened
 store_may_differ = record {
   same = two (defines ∷ covers ∷ []) (covers ∷ defines ∷ []) refl refl refl refl;
-  one = meets (defines ∷ covers ∷ []) defines_first;
-  other = meets (covers ∷ defines ∷ []) covers_first;
+  one = premises start.colors start.depths start.store start.textures (defines ∷ covers ∷ []) defines_first;
+  other = premises start.colors start.depths start.store start.textures (covers ∷ defines ∷ []) covers_first;
   stores = λ e. let z : ◌≡◌ {A = ℕ} 9 5 = ap (λ l. get_or l 0 0) e in omega arith;
 }
