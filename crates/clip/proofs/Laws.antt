@@ -1,15 +1,20 @@
 -- The walk around a polygon, step by step, and how many corners it can give. Assumes nothing.
-use mathlib.Core.Bool.{Bool, true, false, cond, beq}
+use mathlib.Core.Bool.{Bool, true, false, cond, beq, ◌&&◌}
 use mathlib.Core.Path.{◌≡◌, refl, sym, ◌∙◌}
 use mathlib.Core.List.{List, [], ◌∷◌, ◌++◌}
 use Prim.Native.Nat.{ℕ, zero, suc, ◌+◌, ◌*◌, ◌/◌, ◌≤◌, ◌<◌}
 use native.Mathlib.Numerals.{add-one}
 use native.Mathlib.Omega.{arith}
+use native.Mathlib.Decide.{dec_lt}
 use Rattle.std.proofs.lemmas.Grind.{common_steps}
 use lib.Dec.{eqb, ltb}
 use borrow.Author.Tests.{lt-ltb, le-ltb, eq-eqb, ne_eqb}
 use lib.ListN.{length, get_or, drop, length-append, drop_of_length-le}
 use lib.Seq.{drop-cons}
+use Rattle.std.specs.List.{list_all}
+use Rattle.std.proofs.lemmas.Bool.{and_parts, false≢true}
+use Rattle.std.proofs.lemmas.List.{nil_from_length}
+use Rattle.std.proofs.lemmas.List.Sums.{count_by-le-length}
 use Rattle.vertices.specs.declared.Vertex.{Vertex}
 use Rattle.floats.specs.Num.{◌⊖◌, ◌⊘◌, zero32}
 use Rattle.vertices.specs.declared.Plane.{Plane}
@@ -138,6 +143,49 @@ module _ (p : Plane) (l : List Vertex) {n : ℕ} (e : n ≡ insides p l) where
     pub clip_walk : (n ≡ 0 → ⊥) → walked p l ≡ clip_plane p l
     unfolding clip_plane
     clip_walk z = rw (ne_eqb (insides p l) (length l) some_out, ne_eqb (insides p l) 0 (λ q. z (e ∙ q)))
+
+-- where a test of each corner says whether all are inside
+insides_nil : (p : Plane) → insides p [] ≡ 0
+unfolding insides
+insides_nil p = refl
+
+inside_at_most : (p : Plane) (l : List Vertex) → insides p l ≤ length l
+unfolding insides
+inside_at_most p l = count_by-le-length _ l
+
+all_counted : (p : Plane) (l : List Vertex) → list_all (λ v. inside p v) l ≡ true → insides p l ≡ length l
+all_counted p [] e = insides_nil p
+all_counted p (a ∷ l) e =
+    let h = and_parts (inside p a) _ e in
+    let q : insides p (a ∷ l) ≡ 1 + insides p l = insides_cons p a l ∙ rw h.0 in
+    omega (arith, q, all_counted p l h.1)
+
+some_step : (t u : Bool) {k n : ℕ} → (t && u) ≡ false → (u ≡ false → k < n) → k ≤ n → one t + k < n + 1
+some_step true u e f h = omega (arith, f e)
+some_step false u e f h = omega arith
+
+some_counted : (p : Plane) (l : List Vertex) → list_all (λ v. inside p v) l ≡ false → insides p l < length l
+some_counted p [] e = absurd (false≢true (sym e))
+some_counted p (a ∷ l) e = omega (arith, insides_cons p a l, some_step (inside p a) (list_all (λ v. inside p v) l) e (some_counted p l) (inside_at_most p l))
+
+-- none inside: the walk leaves none either
+walked_none : (p : Plane) (l : List Vertex) → insides p l ≡ 0 → walked p l ≡ []
+unfolding walked
+walked_none p [] z = refl
+walked_none p (a ∷ l) z = nil_from_length _ (omega (arith, few_in p a a l))
+
+module _ (p : Plane) (l : List Vertex) where
+  pub clip_all_in : list_all (λ v. inside p v) l ≡ true → l ≡ clip_plane p l
+  clip_all_in e = clip_all p l refl (all_counted p l e)
+
+  walk_of : (n : ℕ) → n ≡ insides p l → Dec (0 < n) → insides p l < length l → walked p l ≡ clip_plane p l
+  walk_of n e (no z) h =
+      let o : n ≡ 0 = omega arith in
+      walked_none p l (sym e ∙ o) ∙ clip_none p l e (λ q. omega arith) o
+  walk_of n e (yes z) h = clip_walk p l e (λ q. omega arith) (λ q. omega arith)
+
+  pub clip_walked : list_all (λ v. inside p v) l ≡ false → walked p l ≡ clip_plane p l
+  clip_walked e = walk_of (insides p l) refl (dec_lt 0 (insides p l)) (some_counted p l e)
 
 -- ---- the planes in turn
 

@@ -4,3 +4,4 @@ pub mod Sides
 pub mod Steps
 pub mod Quick
 pub mod Small
+pub mod Far

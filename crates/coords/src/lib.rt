@@ -37,12 +37,19 @@ fn below_part(y: f32) -> u32
     n
 }
 
-// Zeros, and what is no nearer to zero than 2^22.
+// Zeros, and what is no nearer to zero than 2^22. From 2^23 on an f32 is whole, and below 2^53 a cast keeps it.
 #[cold]
 #[inline(never)]
 fn far_floor(x: f32) -> Floor
     ensures { Floored x result.whole result.low }
 {
+    let size = floats::abs(x);
+    if size >= 8388608.0 && size < 9007199254740992.0 {
+        return Floor {
+            whole: f64::from(x) as i64,
+            low: x,
+        };
+    }
     let low = rounding::floor(x);
     Floor {
         whole: std::num::saturating_f32_to_i64(low),

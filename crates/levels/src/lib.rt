@@ -2,7 +2,7 @@
 // Anyone may hand in any record; `is_valid` tells which ones document 01 takes.
 #![tactic(auto)]
 
-ghost use Rattle.std.specs.Prelude.{◌≡◌, true, ◌+◌, ◌≤◌, ◌<◌, length, get_or, drop, false, MatchOption};
+ghost use Rattle.std.specs.Prelude.{◌≡◌, true, ◌+◌, ◌≤◌, ◌<◌, length, get_or, drop};
 ghost use Rattle.lists.specs.Lists.{any, all};
 ghost use Rattle.levels.specs.Codes.{min_filter_of, filter_of, wrap_of, min_code, mag_code, wrap_code};
 ghost use Rattle.levels.specs.declared.Texture.{Texture};
@@ -273,6 +273,16 @@ fn do_overlap(a: usize, n: usize, b: usize, m: usize) -> bool
     n != 0 && m != 0 && if a <= b { b - a < n } else { a - b < m }
 }
 
+// Whether all levels lie within a store of `len` bytes.
+// Not inlined, here and at the pairs below: levels that are lent to a call stay as they lie, where LLVM would copy them once more, field by field.
+// Kept: is_valid's own length, handed on. (6b)
+#[inline(never)]
+fn do_all_fit(levels: &[MipLevel; Texture::LEVELS], len: usize) -> bool
+    ensures { result ≡ all (fits len) levels.now }
+{
+    levels.iter().all(|m| does_fit(*m, len))
+}
+
 // Levels that all lie within a store of `len` bytes.
 // Kept: `len` is the store's length in bytes, no count of the levels. (6a)
 #[derive(Clone, Copy, Debug, PartialEq, Eq, Hash)]
@@ -283,39 +293,28 @@ pub struct Stored {
 }
 
 impl Stored {
-    // The levels as stored, where they all fit.
-    // Kept: is_valid's own length, handed on. (6b)
-    fn new(levels: [MipLevel; Texture::LEVELS], len: usize) -> Option<Self>
-        ensures { MatchOption result (all (fits len) levels ≡ false) (λ s. (s.levels ≡ levels) × (s.len ≡ len)) }
-    {
-        if levels.iter().all(|m| does_fit(*m, len)) {
-            Some(Stored { levels, len })
-        } else {
-            None
-        }
-    }
-
     // Whether two levels within the store overlap.
     #[tactic(auto, unfolding(crate::specs::Levels::overlaps))]
-    fn overlap(self, a: MipLevel, b: MipLevel) -> bool
-        requires { (fits self.len a ≡ true) × (fits self.len b ≡ true) }
+    fn overlap(&self, a: MipLevel, b: MipLevel) -> bool
+        requires { (fits self.now.len a ≡ true) × (fits self.now.len b ≡ true) }
         ensures { result ≡ overlaps a b }
     {
         a.present && b.present && do_overlap(a.place, size_of(a), b.place, size_of(b))
     }
 
     // Whether m overlaps a level from `from` on.
-    pub fn any_overlap(self, from: usize, m: MipLevel) -> bool
-        requires { (from ≤ 11) × (fits self.len m ≡ true) }
-        ensures { result ≡ any (overlaps m) (drop from self.levels) }
+    pub fn any_overlap(&self, from: usize, m: MipLevel) -> bool
+        requires { (from ≤ 11) × (fits self.now.len m ≡ true) }
+        ensures { result ≡ any (overlaps m) (drop from self.now.levels) }
     {
         self.levels[from..]
             .iter()
             .any(|other| self.overlap(m, *other))
     }
 
-    fn are_pairs_apart(self) -> bool
-        ensures { result ≡ apart self.levels }
+    #[inline(never)]
+    fn are_pairs_apart(&self) -> bool
+        ensures { result ≡ apart self.now.levels }
     {
         !self
             .levels
@@ -325,8 +324,8 @@ impl Stored {
     }
 
     // Whether each kept level with bytes starts where those before it have ended: the usual case, told in one pass.
-    fn are_ascending(self) -> bool
-        ensures { result ≡ ascending 0 self.levels }
+    fn are_ascending(&self) -> bool
+        ensures { result ≡ ascending 0 self.now.levels }
     {
         let mut end: usize = 0;
         for m in &self.levels {
@@ -340,8 +339,8 @@ impl Stored {
         true
     }
 
-    fn are_apart(self) -> bool
-        ensures { result ≡ apart self.levels }
+    fn are_apart(&self) -> bool
+        ensures { result ≡ apart self.now.levels }
     {
         self.are_ascending() || self.are_pairs_apart()
     }
@@ -354,8 +353,12 @@ pub fn is_valid(texture: Texture, len: usize) -> bool
     ensures { result ≡ valid_of len texture }
 {
     let levels = kept_levels(texture.levels);
-    Stored::new(levels, len).is_some_and(|stored| stored.are_apart()
-        && texture.max_mipmap_level == calculate_max_complete_mipmap_level(levels))
+    if !do_all_fit(&levels, len) {
+        return false;
+    }
+    let stored = Stored { levels, len };
+    stored.are_apart()
+        && texture.max_mipmap_level == calculate_max_complete_mipmap_level(stored.levels)
 }
 
 // A texture's record, however it is kept.

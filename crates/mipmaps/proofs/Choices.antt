@@ -27,6 +27,9 @@ at_nought (Some Between) f = refl
 cut_nought : (q : Float) → cut_of q 0 ≡ 0
 cut_nought q = omega (arith, cut_le q 0)
 
+pub level_nought : (m : Option Mipmap) (f : Filter) (q : Float) (top : ℕ) → top ≡ 0 → one_level 0 f ≡ minified m f (cut_of q top)
+level_nought m f q top z = sym (ap (λ (n : ℕ). minified m f n) (ap (cut_of q) z ∙ cut_nought q) ∙ at_nought m f)
+
 same : (b : Bool) (c : Chosen) → c ≡ cond b c c
 same true c = refl
 same false c = refl
@@ -38,8 +41,7 @@ module _ (width height top : ℕ) (min : MinFilter) (mag : Filter) (p : Coordina
 
   -- where level 0 is read whatever the detail, and by one filter
   pub without_levels : texel_filter min ≡ mag → top ≡ 0 → one_level 0 mag ≡ chosen_of width height top min mag p
-  without_levels e z =
-      one_filter e (ap (λ (n : ℕ). minified (mipmap_filter min) (texel_filter min) n) (ap (cut_of (q_at width height p)) z ∙ cut_nought (q_at width height p)) ∙ at_nought (mipmap_filter min) (texel_filter min))
+  without_levels e z = one_filter e (sym (level_nought (mipmap_filter min) (texel_filter min) (q_at width height p) top z))
 
   pub without_mipmaps : texel_filter min ≡ mag → mipmap_filter min ≡ None → one_level 0 mag ≡ chosen_of width height top min mag p
   unfolding minified

@@ -140,8 +140,8 @@ pub fn chosen_levels(
     let q = p.q(width, height);
     if q > 1.0 {
         return match mode {
-            Some(mipmap) => mipmap.levels(table.cut_steps(q, top as u64), filter),
-            None => Chosen {
+            Some(mipmap) if top > 0 => mipmap.levels(table.cut_steps(q, top as u64), filter),
+            _ => Chosen {
                 level: 0,
                 filter,
                 part: None,

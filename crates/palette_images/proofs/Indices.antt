@@ -14,7 +14,7 @@ use Rattle.texels.specs.Image.{image}
 use Rattle.texels.specs.Texels.{nth_texel}
 use Rattle.palette_images.specs.Paletted.{row_bytes, palette_bytes, index_in, index_at, paletted_texel, paletted_image, Entries, entry, entry_at}
 
-index_small : (b byte x : ℕ) → index_in b byte x < 2 ^ b
+pub index_small : (b byte x : ℕ) → index_in b byte x < 2 ^ b
 index_small b byte x = mod-lt (byte / 2 ^ (8 - b - x * b % 8)) (pow_pos b)
 
 -- a decoded entry is the texel of that number

@@ -114,7 +114,8 @@ pub fn finish(state: PipelineState, z: f32, fog_depth: f32, c: Rgba) -> Option<(
     Some((z, fragment::fogged(state, fog_depth, c)))
 }
 
-// A colour blended over the pixel's bytes from k on.
+// A colour blended over the pixel's bytes from k on. Inlined, so that its channels stay in registers: a call would put them into memory.
+#[inline(always)]
 pub fn blended(
     colors: &[u8],
     k: usize,

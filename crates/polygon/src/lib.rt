@@ -58,8 +58,10 @@ impl Polygon {
         requires { length self.old < 42 }
         ensures { self.new ≡ self.old ++ corner ∷ [] }
     {
-        self.corners[self.len] = corner;
-        self.len += 1;
+        // Kept: read once, since the compiler reads it anew after a store among the corners (6)
+        let len = self.len;
+        self.corners[len] = corner;
+        self.len = len + 1;
     }
 
     pub fn clear(&mut self)

@@ -54,7 +54,7 @@ module _ {A : Type 0} (s p c t : List A) (g : A) (at : ℕ) (hp : length p ≡ 4
       let n : at + length ((p ++ c) ++ t) ≡ at + 16 = omega arith in
       rw (e, ← n) (paste_set s at ((p ++ c) ++ t) g (omega arith))
 
-  put_parts : {s1 s2 s3 : List A} → s1 ≡ paste s at p (length p) → s2 ≡ paste s1 (at + 4) c (length c) → s3 ≡ paste s2 (at + 8) t (length t) → set s3 (at + 16) g ≡ paste s at (p ++ (c ++ (t ++ (g ∷ [])))) 17
+  pub put_parts : {s1 s2 s3 : List A} → s1 ≡ paste s at p (length p) → s2 ≡ paste s1 (at + 4) c (length c) → s3 ≡ paste s2 (at + 8) t (length t) → set s3 (at + 16) g ≡ paste s at (p ++ (c ++ (t ++ (g ∷ [])))) 17
   put_parts a b d =
       let e : (p ++ c) ++ t ++ (g ∷ []) ≡ p ++ (c ++ (t ++ (g ∷ []))) = simp append_assoc in
       let m = length-append p c in

@@ -11,6 +11,7 @@ ghost use Rattle.probes.specs.Told.{view_from, range_from, box_from, face_of, cu
 
 use crate::flat_polygon;
 use gradients::PerCorner;
+use polygon::Polygon;
 use replay::numbered::Code;
 use scissor::PixelBox;
 use screen::View;
@@ -51,12 +52,12 @@ pub extern "C" fn probe_clip_triangle(polygon: &mut [f32]) -> usize
     requires { 714 ≤ length polygon.old }
     ensures { corners_of result polygon.new ≡ clipped (vertex_at polygon.old 0 ∷ vertex_at polygon.old 1 ∷ vertex_at polygon.old 2 ∷ []) }
 {
-    let left = clip::clip_triangle(Triangle {
-        a: flat_polygon::corner(polygon, 0),
-        b: flat_polygon::corner(polygon, 1),
-        c: flat_polygon::corner(polygon, 2),
-    });
-    flat_polygon::put_corners(polygon, &left);
+    let mut rooms = (Polygon::new(), Polygon::new());
+    rooms.0.push(flat_polygon::corner(polygon, 0));
+    rooms.0.push(flat_polygon::corner(polygon, 1));
+    rooms.0.push(flat_polygon::corner(polygon, 2));
+    let left = clip::clip_frustum(&mut rooms.0, &mut rooms.1);
+    flat_polygon::put_corners(polygon, left);
     left.corners().len()
 }
 

@@ -10,6 +10,7 @@ ghost use Rattle.raster.specs.Fill.{primitive_of, row_of, fill_of, raster_of, le
 use coverage::Primitive;
 use pixels::target::Target;
 use pixels::{Paint, Staged};
+use polygon::Polygon;
 use scissor::PixelBox;
 use screen::View;
 use settings::PipelineState;
@@ -115,7 +116,11 @@ fn draw_fan<D: Draw>(target: &mut Target, paint: &D, view: View, t: Triangle)
     // Kept: a fact of the type cannot speak of the target as it was (5b)
     ensures same { Same target.old target.new }
 {
-    let polygon = clip::clip_triangle(t);
+    let mut rooms = (Polygon::new(), Polygon::new());
+    rooms.0.push(t.a);
+    rooms.0.push(t.b);
+    rooms.0.push(t.c);
+    let polygon = clip::clip_frustum(&mut rooms.0, &mut rooms.1);
     let Some((a, rest)) = polygon.corners().split_first() else {
         return;
     };

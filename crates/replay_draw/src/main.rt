@@ -79,9 +79,9 @@ fn is_right(entry: &[u8], colors: &mut [u8], depths: &mut [f32]) -> bool {
         return false;
     };
     let after = before + n + m * 4;
-    // A refused call has no count.
+    // A refused call has no count, and what stands at its place is not looked at.
     answers::number(answer) == replay::u32_at(entry, 8)
-        && answer.unwrap_or(0) == replay::u32_at(entry, 12) as usize
+        && answer.map_or(true, |n| n == replay::u32_at(entry, 12) as usize)
         && replay::are_same(colors, entry, after)
         && replay::are_same(depths, entry, after + n)
 }

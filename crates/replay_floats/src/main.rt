@@ -16,16 +16,16 @@ enum Answer {
 }
 
 // Kept: each code stands once, beside its helper; with an enum of the helpers it would stand in try_from, and the helper in a match besides: here no other place speaks of a helper (1l, 7a)
-fn answer_to(entry: &[u8]) -> Option<Answer> {
+fn answer_to(entry: &[u8]) -> Answer {
     let code = replay::byte_at(entry, 0);
     let a = replay::f32_at(entry, 1);
     let b = replay::f32_at(entry, 5);
-    Some(match code {
+    match code {
         0 => Answer::Float(floats::min(a, b)),
         1 => Answer::Float(floats::max(a, b)),
         2 => Answer::Float(floats::clamp(a, b, replay::f32_at(entry, 9))),
         3 => Answer::Float(floats::abs(a)),
-        4 => Answer::Float(a),
+        4 | 9 => Answer::Float(a),
         5 => Answer::Float(rounding::floor(a)),
         6 => Answer::Float(rounding::ceil(a)),
         7 => Answer::Float(rounding::round(a)),
@@ -37,27 +37,26 @@ fn answer_to(entry: &[u8]) -> Option<Answer> {
         14 => Answer::Number(u64::from(saturating_f32_to_u32(a))),
         15 => Answer::Number(u64::from(channels::to_byte(a))),
         16 => Answer::Number(u64::from(channels::rounded_byte(a))),
+        17..=19 => Answer::Number(0),
         20 => Answer::Whole(i64::from(saturating_f32_to_i32(rounding::floor(a)))),
         21 => Answer::Whole(i64::from(saturating_f32_to_i32(rounding::ceil(a)))),
         22 => Answer::Whole(i64::from(saturating_f32_to_i32(rounding::ceil(a)).saturating_add(1))),
         23 => Answer::Whole(saturating_f32_to_i64(rounding::floor(a))),
         24 => Answer::Whole(saturating_f32_to_i64(rounding::floor(a)).saturating_add(1)),
         25 => Answer::Whole(i64::from(saturating_f32_to_i32(a))),
-        26 => Answer::Whole(saturating_f32_to_i64(a)),
-        _ => return None,
-    })
+        _ => Answer::Whole(saturating_f32_to_i64(a)),
+    }
 }
 
 fn is_right(entry: &[u8]) -> bool {
     let right = replay::u64_at(entry, 14);
     match answer_to(entry) {
-        Some(Answer::Float(x)) => replay::same(x, replay::f32_at(entry, 14)),
-        Some(Answer::Number(n)) => n == right,
-        Some(Answer::Whole(z)) => {
+        Answer::Float(x) => replay::same(x, replay::f32_at(entry, 14)),
+        Answer::Number(n) => n == right,
+        Answer::Whole(z) => {
             let Signed { below, n } = Signed::from(z);
             replay::byte_at(entry, 13) == u8::from(below) && n == right
         }
-        None => false,
     }
 }
 

@@ -21,23 +21,20 @@ enum Step {
     ReadFactor,
 }
 
-// A step's number is its place above.
-impl TryFrom<u8> for Step {
-    type Error = ();
-
+// A step's number is its place above; any other number is the fog's.
+impl From<u8> for Step {
     // Kept: each record numbers its own kinds, and the match is their table (2c, 7a)
-    fn try_from(n: u8) -> Result<Step, ()> {
+    fn from(n: u8) -> Step {
         match n {
-            0 => Ok(Step::Test),
-            1 => Ok(Step::Resolve),
-            2 => Ok(Step::Blend),
-            3 => Ok(Step::Environment),
-            4 => Ok(Step::FogFactor),
-            5 => Ok(Step::Fogged),
-            6 => Ok(Step::Mask),
-            7 => Ok(Step::ReadCompare),
-            8 => Ok(Step::ReadFactor),
-            _ => Err(()),
+            0 => Step::Test,
+            1 => Step::Resolve,
+            2 => Step::Blend,
+            3 => Step::Environment,
+            4 => Step::FogFactor,
+            6 => Step::Mask,
+            7 => Step::ReadCompare,
+            8 => Step::ReadFactor,
+            _ => Step::Fogged,
         }
     }
 }
@@ -49,8 +46,8 @@ struct Entry<'a> {
 }
 
 impl Entry<'_> {
-    fn step(self) -> Result<Step, ()> {
-        Step::try_from(replay::byte_at(self.bytes, 0))
+    fn step(self) -> Step {
+        Step::from(replay::byte_at(self.bytes, 0))
     }
 
     // The first code, and the second.
@@ -71,12 +68,14 @@ impl Entry<'_> {
         )
     }
 
-    // The first code's environment, with a colour.
+    // The first code's environment, with a colour: from 4 on, addition.
     fn stage(self, env_color: Rgba) -> TextureStage {
         let (number, _) = self.codes();
         TextureStage {
             unit: 0,
-            env: TexEnvMode::from(Code { number }),
+            env: TexEnvMode::from(Code {
+                number: number.min(4),
+            }),
             env_color,
         }
     }
@@ -130,22 +129,21 @@ fn is_right(entry: Entry) -> bool {
     let (code, _) = entry.codes();
     let (src, dst) = entry.factors();
     match entry.step() {
-        Ok(Step::Test) => {
+        Step::Test => {
             let passes = entry.comparison().test(a.r, a.g);
             entry.has_answer(alone(f32::from(u8::from(passes))))
         }
-        Ok(Step::Resolve) => entry.has_answer(src.resolve(a, b)),
-        Ok(Step::Blend) => entry.has_answer(fragment::blend(src, dst, a, b)),
-        Ok(Step::Environment) => entry.has_answer(fragment::apply_tex_env(entry.stage(a), b, c)),
-        Ok(Step::FogFactor) => entry.has_answer(alone(fragment::fog_factor(with_fog(a, b), a.b))),
-        Ok(Step::Fogged) => entry.has_answer(fragment::fogged(with_fog(a, b), a.b, c)),
-        Ok(Step::Mask) => {
+        Step::Resolve => entry.has_answer(src.resolve(a, b)),
+        Step::Blend => entry.has_answer(fragment::blend(src, dst, a, b)),
+        Step::Environment => entry.has_answer(fragment::apply_tex_env(entry.stage(a), b, c)),
+        Step::FogFactor => entry.has_answer(alone(fragment::fog_factor(with_fog(a, b), a.b))),
+        Step::Fogged => entry.has_answer(fragment::fogged(with_fog(a, b), a.b, c)),
+        Step::Mask => {
             let byte = fragment::masked_byte(code == 1, a.r, entry.stored());
             entry.has_answer(alone(f32::from(byte)))
         }
-        Ok(Step::ReadCompare) => entry.has_number(CompareFunc::try_from(code)),
-        Ok(Step::ReadFactor) => entry.has_number(BlendFactor::try_from(code)),
-        Err(()) => false,
+        Step::ReadCompare => entry.has_number(CompareFunc::try_from(code)),
+        Step::ReadFactor => entry.has_number(BlendFactor::try_from(code)),
     }
 }
 

@@ -17,16 +17,14 @@ enum Call {
     Export,
 }
 
-impl TryFrom<u8> for Call {
-    type Error = ();
-
+// Any other number than 0 and 1 is an export.
+impl From<u8> for Call {
     // Kept: each record numbers its own kinds, and the match is their table (2b, 2c, 7a)
-    fn try_from(n: u8) -> Result<Call, ()> {
+    fn from(n: u8) -> Call {
         match n {
-            0 => Ok(Call::ClearColor),
-            1 => Ok(Call::ClearDepth),
-            2 => Ok(Call::Export),
-            _ => Err(()),
+            0 => Call::ClearColor,
+            1 => Call::ClearDepth,
+            _ => Call::Export,
         }
     }
 }
@@ -38,8 +36,8 @@ struct Entry<'a> {
 }
 
 impl Entry<'_> {
-    fn call(self) -> Result<Call, ()> {
-        Call::try_from(replay::byte_at(self.bytes, 0))
+    fn call(self) -> Call {
+        Call::from(replay::byte_at(self.bytes, 0))
     }
 
     // Number k of the scissor: its sign, and its size.
@@ -92,7 +90,7 @@ fn is_right(entry: Entry, colors: &mut [u8], depths: &mut [f32], out: &mut [u8])
         return false;
     };
     match entry.call() {
-        Ok(Call::ClearColor) => {
+        Call::ClearColor => {
             replay::load(colors, bytes, BODY);
             let rgba = replay::bytes_at(bytes, 30);
             let scissor = entry.scissor();
@@ -101,7 +99,7 @@ fn is_right(entry: Entry, colors: &mut [u8], depths: &mut [f32], out: &mut [u8])
             );
             entry.is_answer(answer) && replay::are_same(colors, bytes, BODY + n)
         }
-        Ok(Call::ClearDepth) => {
+        Call::ClearDepth => {
             replay::load(depths, bytes, BODY);
             let value = replay::f32_at(bytes, 30);
             let scissor = entry.scissor();
@@ -110,13 +108,12 @@ fn is_right(entry: Entry, colors: &mut [u8], depths: &mut [f32], out: &mut [u8])
             );
             entry.is_answer(answer) && replay::are_same(depths, bytes, BODY + m * 4)
         }
-        Ok(Call::Export) => {
+        Call::Export => {
             replay::load(colors, bytes, BODY);
             replay::load(out, bytes, BODY + n);
             let answer = export::to_rgb565(colors, depths_len, width, height, out);
             entry.is_answer(answer) && replay::are_same(out, bytes, BODY + n + k)
         }
-        Err(()) => false,
     }
 }
 

@@ -22,16 +22,14 @@ enum Operation {
     Size,
 }
 
-impl TryFrom<u8> for Operation {
-    type Error = ();
-
+// Any other number than 0 and 2 is a compressed decode.
+impl From<u8> for Operation {
     // Kept: like the other conversions from codes, but with codes and variants of its own, whose table the match is. (2b, 2c, 7a)
-    fn try_from(code: u8) -> Result<Operation, ()> {
+    fn from(code: u8) -> Operation {
         match code {
-            0 => Ok(Operation::Decode(Data::Plain)),
-            1 => Ok(Operation::Decode(Data::Compressed)),
-            2 => Ok(Operation::Size),
-            _ => Err(()),
+            0 => Operation::Decode(Data::Plain),
+            2 => Operation::Size,
+            _ => Operation::Decode(Data::Compressed),
         }
     }
 }
@@ -71,10 +69,9 @@ fn is_size_right(entry: &[u8]) -> bool {
 }
 
 fn is_right(entry: &[u8]) -> bool {
-    match Operation::try_from(replay::byte_at(entry, 0)) {
-        Ok(Operation::Decode(data)) => is_decode_right(data, entry),
-        Ok(Operation::Size) => is_size_right(entry),
-        Err(()) => false,
+    match Operation::from(replay::byte_at(entry, 0)) {
+        Operation::Decode(data) => is_decode_right(data, entry),
+        Operation::Size => is_size_right(entry),
     }
 }
 

@@ -15,16 +15,14 @@ enum Kind {
     Set,
 }
 
-impl TryFrom<u8> for Kind {
-    type Error = ();
-
+// Any other number than 0 and 1 is a setting.
+impl From<u8> for Kind {
     // Kept: each record numbers its own kinds, and the match is their table (2b, 2c, 7a)
-    fn try_from(n: u8) -> Result<Kind, ()> {
+    fn from(n: u8) -> Kind {
         match n {
-            0 => Ok(Kind::Define),
-            1 => Ok(Kind::Patch),
-            2 => Ok(Kind::Set),
-            _ => Err(()),
+            0 => Kind::Define,
+            1 => Kind::Patch,
+            _ => Kind::Set,
         }
     }
 }
@@ -53,9 +51,7 @@ fn call(
 
 // The call on a store and an image of the entry's lengths: its number, and the checksums of what it leaves.
 fn is_call_right(store: &mut [u8], image: &mut [u8], entry: &[u8]) -> bool {
-    let Ok(kind) = Kind::try_from(replay::byte_at(entry, 0)) else {
-        return false;
-    };
+    let kind = Kind::from(replay::byte_at(entry, 0));
     let mut record = replay::bytes_at(entry, 47);
     replay::fill(store, 3, 7);
     replay::fill(image, replay::byte_at(entry, 33), 13);

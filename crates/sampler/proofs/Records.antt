@@ -40,13 +40,13 @@ module _ (n : ℕ) (x : Texture) (r : Readable n x) (k : ℕ) (h : k ≤ x.max_m
   whole_level : complete (level_of x k) ≡ true
   whole_level = valid_chain n x r.valid r.whole k h
 
-  level_fits : Fits n (get_or x.levels k absent)
+  pub level_fits : Fits n (get_or x.levels k absent)
   level_fits = by_fields (λ (m : MipLevel). Fits n m) (moved n) x k (valid_level n x r.valid k (complete_present (level_of x k) whole_level))
 
-  level_wide : 0 < (get_or x.levels k absent).width
+  pub level_wide : 0 < (get_or x.levels k absent).width
   level_wide = by_fields (λ (m : MipLevel). 0 < m.width) (λ m z. z) x k (complete_wide (level_of x k) whole_level)
 
-  level_high : 0 < (get_or x.levels k absent).height
+  pub level_high : 0 < (get_or x.levels k absent).height
   level_high = by_fields (λ (m : MipLevel). 0 < m.height) (λ m z. z) x k (complete_high (level_of x k) whole_level)
 
   pub level_ready : Fits n (get_or x.levels k absent) × (0 < (get_or x.levels k absent).width) × (0 < (get_or x.levels k absent).height)

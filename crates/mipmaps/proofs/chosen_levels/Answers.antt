@@ -7,7 +7,7 @@ use Rattle.lists.proofs.Choice.{yes, no}
 use Rattle.mipmaps.specs.declared.Mipmap.{Mipmap}
 use Rattle.detail.proofs.Cut.{cut_le}
 use Rattle.mipmaps.specs.Mipmaps.{texel_filter, minified, chosen_of}
-use Rattle.mipmaps.proofs.Choices.{without_levels, without_mipmaps}
+use Rattle.mipmaps.proofs.Choices.{level_nought, without_levels, without_mipmaps}
 use Rattle.mipmaps.proofs.chosen_levels.Goals as goal
 use Rattle.mipmaps.proofs.chosen_levels.Goals.{then-top-eq0, else-top-eq0}
 
@@ -28,9 +28,14 @@ pub returns-in-Some : goal.returns-in-Some
 unfolding chosen_of
 returns-in-Some c = rw (sym c.q-q.ensures) (yes _ c.if-q.true (c.levels.ensures ∙ rw (sym c.texel_filter-filter.ensures, sym c.mipmap_filter-mode.ensures, c.in-Some.is, c.cut_steps.ensures)))
 
-pub returns-in-None : goal.returns-in-None
+pub returns-in_default : goal.returns-in_default
+unfolding chosen_of
+returns-in_default c =
+    rw (sym c.q-q.ensures) (yes _ c.if-q.true (rw (sym c.texel_filter-filter.ensures) (level_nought _ _ _ _ (omega (arith, c.if-top-gt0.false)))))
+
+pub returns-in_default-2 : goal.returns-in_default-2
 unfolding chosen_of minified
-returns-in-None c = rw (sym c.q-q.ensures) (yes _ c.if-q.true (rw (sym c.texel_filter-filter.ensures, sym c.mipmap_filter-mode.ensures, c.in-None.is)))
+returns-in_default-2 c = rw (sym c.q-q.ensures) (yes _ c.if-q.true (rw (sym c.texel_filter-filter.ensures, sym c.mipmap_filter-mode.ensures, c.in_default.is)))
 
 pub returns : goal.returns
 unfolding chosen_of

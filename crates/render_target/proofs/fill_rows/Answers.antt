@@ -3,7 +3,7 @@ use mathlib.Core.Path.{refl}
 use native.Mathlib.Omega.{arith}
 use native.Mathlib.Nat.{mul-le-mul_right}
 use lib.ListN.{length}
-use Rattle.std.proofs.Common.{rules}
+use Rattle.std.proofs.Common.{rules, le_trans}
 use Rattle.render_target.proofs.Rowwise.{row_more, rows_end, row_within, row_room}
 use Rattle.render_target.proofs.fill_rows.Goals as goal
 
@@ -23,7 +23,7 @@ pub fill-requires : goal.fill-requires
 fill-requires g c =
     let end : c.loop-y.y * c.args.width + c.args.b.x1 ≤ c.args.b.y1 * c.args.width = omega (arith, row_within c.args.width c.loop-y-test.true, c.requires) in
     let room : (c.loop-y.y * c.args.width + c.args.b.x1) * g.row.K ≤ length c.loop-y.items = omega (arith, mul-le-mul_right g.row.K end, c.loop-y.auto.items, c.requires) in
-    (search rules, (omega (arith, c.requires), room))
+    (search rules, (omega (arith, c.requires), le_trans (mul-le-mul_right g.row.K (omega (arith, c.requires))) room))
 
 pub loop-y-preserved : goal.loop-y-preserved
 loop-y-preserved g c = λ z. row_more (c.loop-y.invariant z) c.loop-y-test.true (c.fill.ensures z)
