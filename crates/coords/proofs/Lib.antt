@@ -4,4 +4,3 @@ pub mod Sides
 pub mod Steps
 pub mod Quick
 pub mod Small
-pub mod Far

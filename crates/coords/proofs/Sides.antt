@@ -48,7 +48,7 @@ neither : (a b : Bool) (k : ℕ) → b ≡ false → cond a 0 (cond b k 0) ≡ 0
 neither true b k e = refl
 neither false b k e = rw e
 
-pub or_le : (a b : ℕ) (t : Bool) → (ltb a b || (eqb a b && t)) ≡ true → a ≤ b
+or_le : (a b : ℕ) (t : Bool) → (ltb a b || (eqb a b && t)) ≡ true → a ≤ b
 or_le a b t = go (ltb a b) (eqb a b) (ltb-true a b) (eqb-true a b)
   where
     go : (l e : Bool) → (l ≡ true → a < b) → (e ≡ true → a ≡ b) → (l || (e && t)) ≡ true → a ≤ b

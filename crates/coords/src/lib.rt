@@ -1,11 +1,11 @@
 // Texel indices along one side of a level.
 #![tactic(auto)]
 
-ghost use Rattle.std.specs.Prelude.{◌≡◌, true, ◌+◌, ◌≤◌, ◌<◌, negsuc};
+ghost use Rattle.std.specs.Prelude.{◌≡◌, true, ◌+◌, ◌≤◌, ◌<◌, negsuc, IfSome};
 ghost use Rattle.std.specs.Float.Ieee as Ieee;
 ghost use Rattle.floats.specs.Num.{of_nat32};
-ghost use Rattle.rounding.specs.Rounding.{next_of};
-ghost use Rattle.coords.specs.Coords.{Few, Floored, wrap_texel, wrap_coord, axis_of};
+ghost use Rattle.rounding.specs.Rounding.{floor_of, next_of};
+ghost use Rattle.coords.specs.Coords.{Few, Floored, wrap_texel, wrap_coord, edge_coord, axis_of};
 
 use levels::Wrap;
 
@@ -37,19 +37,12 @@ fn below_part(y: f32) -> u32
     n
 }
 
-// Zeros, and what is no nearer to zero than 2^22. From 2^23 on an f32 is whole, and below 2^53 a cast keeps it.
+// Zeros, and what is no nearer to zero than 2^22.
 #[cold]
 #[inline(never)]
 fn far_floor(x: f32) -> Floor
     ensures { Floored x result.whole result.low }
 {
-    let size = floats::abs(x);
-    if size >= 8388608.0 && size < 9007199254740992.0 {
-        return Floor {
-            whole: f64::from(x) as i64,
-            low: x,
-        };
-    }
     let low = rounding::floor(x);
     Floor {
         whole: std::num::saturating_f32_to_i64(low),
@@ -57,25 +50,36 @@ fn far_floor(x: f32) -> Floor
     }
 }
 
+// The floor of what is near, neither zero nor from 2^22 on.
 // Kept: by rounding's floor and saturating_f32_to_i64 alone nearest misses its bar of 0.5 in eight runs of twelve (up to 0.87), where this has 0.27 to 0.39. (4d)
-fn floored(x: f32) -> Floor
-    ensures { Floored x result.whole result.low }
+#[inline(always)]
+fn near_floor(x: f32) -> Option<Floor>
+    ensures { IfSome result (λ f. Floored x f.whole f.low) }
 {
     if x > 0.0 && x < 4194304.0 {
         let n = rounding::whole_part::<22>(x);
-        return Floor {
+        return Some(Floor {
             whole: i64::from(n),
             low: n as f32,
-        };
+        });
     }
     if x < 0.0 && -x < 4194304.0 {
         let n = below_part(-x);
-        return Floor {
+        return Some(Floor {
             whole: -1 - i64::from(n),
             low: -((n + 1) as f32),
-        };
+        });
     }
-    far_floor(x)
+    None
+}
+
+fn floored(x: f32) -> Floor
+    ensures { Floored x result.whole result.low }
+{
+    match near_floor(x) {
+        Some(floor) => floor,
+        None => far_floor(x),
+    }
 }
 
 // A side of a level: how many texels it has, and what lies past its ends.
@@ -123,12 +127,43 @@ impl Side {
         }
     }
 
+    // The texel, clamped, at a scaled coordinate: by its floor as a float, of which no whole number is made.
+    #[tactic(auto, using(crate::proofs::Sides::side_fits), unfolding(crate::specs::Coords::edge_coord))]
+    fn far_edge(self, x: f32) -> u32
+        ensures { result ≡ edge_coord (floor_of x) self.size }
+    {
+        let low = rounding::floor(x);
+        if low < 0.0 {
+            return 0;
+        }
+        if low >= self.size as f32 {
+            return self.size - 1;
+        }
+        std::num::saturating_f32_to_u32(low)
+    }
+
+    // The texel of a scaled coordinate that is not near.
+    #[cold]
+    #[inline(never)]
+    fn far_texel(self, x: f32) -> u32
+        ensures { result ≡ wrap_texel self.wrap (Ieee.to_signed 63 (floor_of x)) self.size }
+    {
+        match self.wrap {
+            Wrap::Repeat => self.texel(far_floor(x).whole),
+            Wrap::ClampToEdge => self.far_edge(x),
+        }
+    }
+
     // The index that a nearest sample takes.
     #[tactic(auto, using(crate::proofs::Sides::side_fits))]
     pub fn coord(self, v: f32) -> u32
         ensures { result ≡ wrap_coord self.wrap v self.size }
     {
-        self.texel(floored(v * self.size as f32).whole)
+        let x = v * self.size as f32;
+        match near_floor(x) {
+            Some(floor) => self.texel(floor.whole),
+            None => self.far_texel(x),
+        }
     }
 
     // The texels of a linear sample.

@@ -2,7 +2,6 @@ pub mod Defaults
 pub mod Each
 pub mod Mapped
 pub mod Next
-pub mod Cuts
 pub mod Steps
 pub mod Stores
 pub mod Corners

@@ -1,7 +1,7 @@
 // The helpers of the crates floats, channels and rounding.
-ghost use Rattle.std.specs.Prelude.{◌≡◌, ℕ, ◌+◌, ◌-◌, ◌^◌, ◌≤◌, min, nat_eq, length, get_or, pos, negsuc, cond};
+ghost use Rattle.std.specs.Prelude.{◌≡◌, ℕ, ◌+◌, ◌-◌, min, nat_eq, length, get_or, pos, negsuc, cond};
 ghost use Rattle.std.specs.Float.Ieee as Ieee;
-ghost use Rattle.std.specs.Float.{binary32, nan, two_to};
+ghost use Rattle.std.specs.Float.{binary32, nan};
 ghost use Rattle.lists.specs.Lists.{tab};
 ghost use Rattle.floats.specs.Num.{min_of, max_of, clamp_of, abs_of, finite_of, bounded_of};
 ghost use Rattle.rounding.specs.Rounding.{floor_of, ceil_of, round_of, next_of};
@@ -101,45 +101,11 @@ pub extern "C" fn probe_round(x: f32) -> f32
     rounding::round(x)
 }
 
-// x without its fraction, from -1 - top to `top`. By std's saturating_f32_to_i32 and saturating_f32_to_i64 a call takes up to half as long again.
-fn saturating<const H: u32>(x: f32, end: f32, top: u64) -> Signed
-    requires bits { H ≤ 63 }
-    requires end { end ≡ two_to H }
-    requires top { top ≡ 2 ^ H - 1 }
-    ensures { signed_of result ≡ Ieee.to_signed H x }
-{
-    if x > -1.0 {
-        if x < end {
-            return Signed {
-                below: false,
-                n: std::num::truncating_f32_to_u64(x),
-            };
-        }
-        return Signed {
-            below: false,
-            n: top,
-        };
-    }
-    if -x < end {
-        return Signed {
-            below: true,
-            n: std::num::truncating_f32_to_u64(-x) - 1,
-        };
-    }
-    if x < 0.0 {
-        return Signed {
-            below: true,
-            n: top,
-        };
-    }
-    Signed { below: false, n: 0 }
-}
-
 #[unsafe(no_mangle)]
 pub extern "C" fn probe_saturating_i32(x: f32, n: &mut u64) -> bool
     ensures { cond result (negsuc n.new) (pos n.new) ≡ Ieee.to_signed 31 x }
 {
-    let s = saturating::<31>(x, 2147483648.0, 2147483647);
+    let s = Signed::from(i64::from(std::num::saturating_f32_to_i32(x)));
     *n = s.n;
     s.below
 }
@@ -148,7 +114,7 @@ pub extern "C" fn probe_saturating_i32(x: f32, n: &mut u64) -> bool
 pub extern "C" fn probe_saturating_i64(x: f32, n: &mut u64) -> bool
     ensures { cond result (negsuc n.new) (pos n.new) ≡ Ieee.to_signed 63 x }
 {
-    let s = saturating::<63>(x, 9223372036854775808.0, 9223372036854775807);
+    let s = Signed::from(std::num::saturating_f32_to_i64(x));
     *n = s.n;
     s.below
 }

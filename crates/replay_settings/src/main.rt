@@ -21,7 +21,7 @@ enum Step {
     ReadFactor,
 }
 
-// A step's number is its place above; any other number is the fog's.
+// A step's number is its place above; any other number is Fogged.
 impl From<u8> for Step {
     // Kept: each record numbers its own kinds, and the match is their table (2c, 7a)
     fn from(n: u8) -> Step {

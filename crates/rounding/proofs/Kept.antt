@@ -79,7 +79,7 @@ whole_value s m (pos k) f =
 double : (a b : ℕ) → 0 < b → 2 ^ 23 * (2 * b) ≤ a → 2 ^ 24 ≤ a
 double a b h l = omega arith
 
-pub no_part : (s : Bool) (m : ℕ) (e : ℤ) → T (fits binary32 (fin s (suc m) e)) → 2 ^ 23 ≤ whole (suc m) e → suc m * up e % down e ≡ 0
+no_part : (s : Bool) (m : ℕ) (e : ℤ) → T (fits binary32 (fin s (suc m) e)) → 2 ^ 23 ≤ whole (suc m) e → suc m * up e % down e ≡ 0
 no_part s m (pos k) f h = mod-one (suc m * 2 ^ k)
 no_part s m (negsuc k) f h =
     absurd (not-le_of_lt (digits s m (negsuc k) f)

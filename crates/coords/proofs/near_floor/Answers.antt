@@ -2,7 +2,7 @@ use lib.Ieee.{of_bits}
 use mathlib.Core.Path.{refl}
 use native.Mathlib.Omega.{arith}
 use Rattle.coords.proofs.Quick.{few_part, floored_above, floored_below, small_float, minus_above, held_whole, held_below}
-use Rattle.coords.proofs.floored.Goals as goal
+use Rattle.coords.proofs.near_floor.Goals as goal
 
 pub int_to_float-result : goal.int_to_float-result
 int_to_float-result c = small_float _ (omega (arith, c.whole_part-n.ensures.few))
